@@ -1,0 +1,5 @@
+pub mod Flat
+pub mod Codes
+pub mod Laws
+pub mod Encode
+pub mod Models

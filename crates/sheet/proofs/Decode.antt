@@ -1,0 +1,58 @@
+-- What stands where in a decoded sheet.
+-- Assumes nothing.
+use Prim.Native.Nat.{ℕ, zero, suc, _<_}
+use mathlib.Core.Path.{_≡_, refl, sym, ap, _∙_}
+use mathlib.Core.List.{List}
+use lib.ListN.{length, getD}
+use native.Mathlib.Omega.{arith}
+use Rattle.sheet.specs.declared.Fields.{Fields}
+use Rattle.sheet.specs.Sheet.{unknown, equal, countTerms, countEntries, termAt, entryAt}
+use Rattle.sheet.specs.Decode.{statedTerms, statedEntries, termPlace, entryPlace, fieldsAt, termOf, relationOf, decodeTerm, decodeEntry, each, sheetOf}
+
+length-each : {A : Type 0} (n : ℕ) (f : ℕ → A) → length (each n f) ≡ n
+unfolding each
+length-each zero f = refl
+length-each (suc n) f = ap suc (length-each n (λ i. f (suc i)))
+
+getD-each : {A : Type 0} (n : ℕ) (f : ℕ → A) (d : A) (i : ℕ) → i < n → getD (each n f) i d ≡ f i
+unfolding each
+getD-each zero f d i h = absurd (omega arith)
+getD-each (suc n) f d zero h = refl
+getD-each (suc n) f d (suc i) h = getD-each n (λ k. f (suc k)) d i (omega arith)
+
+pub terms-stated : (b : List ℕ) → countTerms (sheetOf b) ≡ statedTerms b
+unfolding sheetOf
+terms-stated b = length-each (statedTerms b) _
+
+pub entries-stated : (b : List ℕ) → countEntries (sheetOf b) ≡ statedEntries b
+unfolding sheetOf
+entries-stated b = length-each (statedEntries b) _
+
+pub term-decoded : (b : List ℕ) (i : ℕ) → i < countTerms (sheetOf b) → termAt (sheetOf b) i ≡ decodeTerm (fieldsAt b (termPlace i))
+unfolding sheetOf
+term-decoded b i h = getD-each (statedTerms b) _ _ i (rw (length-each (statedTerms b)) at h)
+
+pub entry-decoded : (b : List ℕ) (e : ℕ) → e < countEntries (sheetOf b) → entryAt (sheetOf b) e ≡ decodeEntry (fieldsAt b (entryPlace b e))
+unfolding sheetOf
+entry-decoded b e h = getD-each (statedEntries b) _ _ e (rw (length-each (statedEntries b)) at h)
+
+-- what the code's last arms say: a kind that no other arm has
+pub term-other : (f : Fields) → (f .kind ≡ 1 → ⊥) → (f .kind ≡ 2 → ⊥) → (f .kind ≡ 3 → ⊥) → (f .kind ≡ 4 → ⊥) → decodeTerm f ≡ unknown
+unfolding decodeTerm termOf
+term-other f = go (f .kind)
+  where
+    go : (k : ℕ) → (k ≡ 1 → ⊥) → (k ≡ 2 → ⊥) → (k ≡ 3 → ⊥) → (k ≡ 4 → ⊥) → termOf k f ≡ unknown
+    go zero p q r s = refl
+    go (suc zero) p q r s = absurd (p refl)
+    go (suc (suc zero)) p q r s = absurd (q refl)
+    go (suc (suc (suc zero))) p q r s = absurd (r refl)
+    go (suc (suc (suc (suc zero)))) p q r s = absurd (s refl)
+    go (suc (suc (suc (suc (suc k))))) p q r s = refl
+
+pub relation-other : (k : ℕ) → (k ≡ 1 → ⊥) → (k ≡ 2 → ⊥) → (k ≡ 3 → ⊥) → relationOf k ≡ equal
+unfolding relationOf
+relation-other zero p q r = refl
+relation-other (suc zero) p q r = absurd (p refl)
+relation-other (suc (suc zero)) p q r = absurd (q refl)
+relation-other (suc (suc (suc zero))) p q r = absurd (r refl)
+relation-other (suc (suc (suc (suc k)))) p q r = refl

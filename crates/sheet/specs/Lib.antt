@@ -1,0 +1,5 @@
+pub mod Limits
+pub mod Sheet
+pub mod Meaning
+pub mod Decode
+pub mod Says
