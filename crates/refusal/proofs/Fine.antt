@@ -1,0 +1,110 @@
+-- A sheet that the table doesn't send back is well-formed.
+-- Assumes nothing.
+use Prim.Native.Nat.{ℕ, zero, suc, _+_, _*_, _≤_, _<_}
+use mathlib.Core.Path.{_≡_, refl, sym, subst}
+use mathlib.Core.Bool.{Bool, true, false, not, _||_, true≢false}
+use mathlib.Core.List.{List}
+use lib.Dec.{ltb, leb, eqb}
+use lib.ListN.{length}
+use native.Mathlib.Omega.{arith}
+use borrow.Author.Tests.{ltb-false, leb-false, eqb-true, eqb-false, not-false}
+use Rattle.big.specs.Big.{bigOf}
+use Rattle.sheet.specs.declared.Fields.{Fields}
+use Rattle.sheet.specs.Limits.{maxTerms, maxEntries, sheetLength}
+use Rattle.sheet.specs.Sheet.{Term, ArgumentsBelow, of-unknown, of-number, of-shift, of-apply, of-apply2, WellFormed, entryAt}
+use Rattle.sheet.specs.Decode.{byteAt, statedTerms, statedEntries, termPlace, entryPlace, fieldsAt, termOf, decodeTerm, decodeEntry, sheetOf, Sized}
+use Rattle.sheet.proofs.Decode.{terms-stated, entries-stated, term-decoded, entry-decoded}
+use Rattle.refusal.specs.Table.{Reply, fine, refused, _then_, given, nonZero, notBelow, wrongLength, wrongVersion, wrongShape, wrongByKind, wrongTerm, wrongEntry, wrongTermOf, wrongEntryOf, lowest, sheetRefusal}
+use Rattle.refusal.proofs.Lowest.{lowest-clear}
+
+neither : (a b : Bool) → a || b ≡ false → (a ≡ false) × (b ≡ false)
+neither true b e = absurd (true≢false e)
+neither false b e = (refl, e)
+
+last-two : (x a b : Bool) → x || a || b ≡ false → (a ≡ false) × (b ≡ false)
+last-two x a b e = let (rest, last) = neither (x || a) b e in (neither x a rest .1, last)
+
+below : (a n : ℕ) → notBelow a n ≡ false → a < n
+below a n e = leb-false n a e
+
+pub length-fine : (b : List ℕ) → wrongLength b ≡ false → 6 ≤ length b
+unfolding wrongLength
+length-fine b e = ltb-false _ _ (neither _ _ e .0)
+
+-- what refusal 12 leaves
+pub record Shaped (b : List ℕ) : Type 0 where
+  pub some : 1 ≤ statedTerms b
+  pub terms : statedTerms b ≤ maxTerms
+  pub entries : statedEntries b ≤ maxEntries
+  pub sized : Sized b
+
+pub shape-fine : (b : List ℕ) → wrongShape b ≡ false → Shaped b
+unfolding wrongShape
+shape-fine b e =
+    let (e₁, long) = neither _ _ e in
+    let (e₂, five) = neither _ _ e₁ in
+    let (e₃, entries) = neither _ _ e₂ in
+    let (none, terms) = neither _ _ e₃ in
+    let some : statedTerms b ≡ 0 → ⊥ = eqb-false _ _ none in
+    record {
+      some = omega arith;
+      terms = ltb-false _ _ terms;
+      entries = ltb-false _ _ entries;
+      sized = record { whole = eqb-true _ _ (not-false _ long) };
+    }
+
+pub term-fine : (i : ℕ) (f : Fields) → wrongTerm i f ≡ false → ArgumentsBelow i (decodeTerm f)
+unfolding wrongTerm wrongByKind decodeTerm termOf
+term-fine i f = go (f .kind)
+  where
+    go : (k : ℕ) → wrongByKind k i f ≡ false → ArgumentsBelow i (termOf k f)
+    go zero e = of-unknown
+    go (suc zero) e = of-number
+    go (suc (suc zero)) e = of-shift (below (f .a) i (neither (nonZero (f .symbol) || nonZero (f .b)) _ e .1))
+    go (suc (suc (suc zero))) e = of-apply (below (f .a) i (neither (nonZero (f .b) || nonZero (f .c)) _ e .1))
+    go (suc (suc (suc (suc zero)))) e =
+        let (a, b) = last-two (nonZero (f .c)) (notBelow (f .a) i) (notBelow (f .b) i) e in of-apply2 (below (f .a) i a) (below (f .b) i b)
+    go (suc (suc (suc (suc (suc k))))) e = absurd (true≢false e)
+
+pub entry-fine : (T : ℕ) (f : Fields) → wrongEntry T f ≡ false → (f .a < T) × (f .b < T)
+unfolding wrongEntry
+entry-fine T f e = let (a, b) = last-two (ltb 3 (f .kind) || nonZero (f .symbol)) _ _ e in (below _ _ a, below _ _ b)
+
+-- what a row that doesn't apply leaves
+passed : (t : Bool) (number place : ℕ) (r : Reply) → given t number place then r ≡ fine → (t ≡ false) × (r ≡ fine)
+passed true number place r e = let z : _≡_ {A = ℕ} 0 1 = cc in absurd (omega arith)
+passed false number place r e = (refl, e)
+
+last-passed : (t : Bool) (number place : ℕ) → given t number place ≡ fine → t ≡ false
+last-passed true number place e = let z : _≡_ {A = ℕ} 0 1 = cc in absurd (omega arith)
+last-passed false number place e = refl
+
+pub fine-sized : (b : List ℕ) → sheetRefusal b ≡ fine → Sized b
+unfolding sheetRefusal
+fine-sized b e =
+    let (_, e₁) = passed (wrongLength b) 10 0 _ e in
+    let (_, e₂) = passed (wrongVersion b) 11 0 _ e₁ in
+    shape-fine b (passed (wrongShape b) 12 0 _ e₂ .0) .sized
+
+pub fine-formed : (b : List ℕ) → sheetRefusal b ≡ fine → WellFormed (sheetOf b)
+unfolding sheetRefusal wrongTermOf wrongEntryOf decodeEntry
+fine-formed b e =
+    let (_, e₁) = passed (wrongLength b) 10 0 _ e in
+    let (_, e₂) = passed (wrongVersion b) 11 0 _ e₁ in
+    let (shape, e₃) = passed (wrongShape b) 12 0 _ e₂ in
+    let (terms, e₄) = passed (ltb (lowest (statedTerms b) (wrongTermOf b)) (statedTerms b)) 13 _ _ e₃ in
+    let entries = last-passed (ltb (lowest (statedEntries b) (wrongEntryOf b)) (statedEntries b)) 14 _ e₄ in
+    let shaped = shape-fine b shape in
+    let T = terms-stated b in
+    let L = entries-stated b in
+    let compared : (e : ℕ) → e < statedEntries b → (fieldsAt b (entryPlace b e) .a < statedTerms b) × (fieldsAt b (entryPlace b e) .b < statedTerms b) =
+        λ e l. entry-fine (statedTerms b) (fieldsAt b (entryPlace b e)) (lowest-clear (statedEntries b) (wrongEntryOf b) (ltb-false _ _ entries) e l)
+    in
+    record {
+      some = omega arith;
+      terms = omega arith;
+      entries = omega arith;
+      arguments = λ i l. rw (term-decoded b i l) (term-fine i _ (lowest-clear (statedTerms b) (wrongTermOf b) (ltb-false _ _ terms) i (omega arith)));
+      left = λ e l. rw (entry-decoded b e l, T) (compared e (omega arith) .0);
+      right = λ e l. rw (entry-decoded b e l, T) (compared e (omega arith) .1);
+    }

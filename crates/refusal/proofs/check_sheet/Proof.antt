@@ -1,0 +1,107 @@
+-- `refusal::check_sheet` meets its contract: at each `return` the rows above it don't apply, and the row's own test does.
+-- Assumes nothing.
+use mathlib.Core.Path.{_≡_, sym, ap, _∙_}
+use mathlib.Core.Bool.{false, not}
+use Prim.Native.Nat.{_≤_, _<_}
+use lib.Dec.{ltb}
+use lib.ListN.{length}
+use borrow.Author.Needs.{needs}
+use borrow.Author.Tests.{lt-ltb, le-ltb, eq-eqb, ne-eqb}
+use denote.Ref.{now}
+use native.Mathlib.Omega.{arith}
+use Rattle.sheet.specs.Decode.{Sized, statedTerms, statedEntries}
+use Rattle.refusal.specs.Table.{wrongLength, wrongVersion, wrongShape, wrongTermOf, wrongEntryOf, lowest, sheetRefusal}
+use Rattle.refusal.proofs.Fine.{length-fine, shape-fine}
+use Rattle.refusal.proofs.Rows.{row13, row14, no-row}
+use Rattle.refusal.proofs.check_sheet.Statement.{statement}
+use Rattle.refusal.proofs.check_sheet.Tie as tie
+
+-- what each row that didn't apply says of the bytes
+not10 : (c : tie.Else1) → wrongLength (now (c .before .before .before .args .sheet)) ≡ false
+not10 c = sym (c .before .wrong-length .ensures) ∙ c .if1 .left
+
+six : (c : tie.Else1) → 6 ≤ length (now (c .before .before .before .args .sheet))
+six c = length-fine _ (not10 c)
+
+not11 : (c : tie.Else2) → wrongVersion (now (c .before .before .before .before .before .args .sheet)) ≡ false
+unfolding wrongVersion
+not11 c = ap not (eq-eqb _ _ (c .if2 .left))
+
+not12 : (c : tie.Else3) → wrongShape (now (c .before .before .before .before .before .before .before .args .sheet)) ≡ false
+not12 c = sym (c .before .wrong-shape .ensures) ∙ c .if3 .left
+
+sized : (c : tie.Else3) → Sized (now (c .before .before .before .before .before .before .before .args .sheet))
+sized c = shape-fine _ (not12 c) .sized
+
+wrong-length-requires : tie.Need-wrong-length-requires
+wrong-length-requires c κs = search needs
+
+returns : tie.Need-returns
+unfolding sheetRefusal
+returns c = rw (sym (c .before .wrong-length .ensures) ∙ c .if1 .taken)
+
+shared-slice-read-if2 : tie.Need-shared-slice-read-if2
+shared-slice-read-if2 c = omega (arith, six (c .before))
+
+returns-2 : tie.Need-returns-2
+unfolding sheetRefusal wrongVersion
+returns-2 c = rw (not10 (c .before .before), ne-eqb _ _ (c .if2 .taken))
+
+wrong-shape-requires : tie.Need-wrong-shape-requires
+wrong-shape-requires c κs = six (c .before .before)
+
+returns-3 : tie.Need-returns-3
+unfolding sheetRefusal
+returns-3 c = rw (not10 (c .before .before .before .before), not11 (c .before .before), sym (c .before .wrong-shape .ensures) ∙ c .if3 .taken)
+
+lowest-wrong-term-requires : tie.Need-lowest-wrong-term-requires
+lowest-wrong-term-requires c κs = sized c
+
+shared-slice-read-if4 : tie.Need-shared-slice-read-if4
+shared-slice-read-if4 c = omega (arith, six (c .before .before .before .before .before .before))
+
+returns-4 : tie.Need-returns-4
+returns-4 c =
+    let shaped = c .before .before .before in
+    let versioned = shaped .before .before in
+    row13 _ (not10 (versioned .before .before)) (not11 versioned) (not12 shaped) _ (c .before .before .lowest-wrong-term .ensures) (c .if4 .taken)
+
+lowest-wrong-entry-requires : tie.Need-lowest-wrong-entry-requires
+lowest-wrong-entry-requires c κs = sized (c .before .before .before)
+
+shared-slice-read-if5 : tie.Need-shared-slice-read-if5
+shared-slice-read-if5 c = omega (arith, six (c .before .before .before .before .before .before .before .before .before))
+
+returns-5 : tie.Need-returns-5
+returns-5 c =
+    let formed = c .before .before .before in
+    let shaped = formed .before .before .before in
+    let versioned = shaped .before .before in
+    row14 _ (not10 (versioned .before .before)) (not11 versioned) (not12 shaped) _ (formed .before .before .lowest-wrong-term .ensures) (formed .if4 .left)
+    _ (c .before .before .lowest-wrong-entry .ensures) (c .if5 .taken)
+
+returns-6 : tie.Need-returns-6
+returns-6 c =
+    let formed = c .before .before .before in
+    let shaped = formed .before .before .before in
+    let versioned = shaped .before .before in
+    no-row _ (not10 (versioned .before .before)) (not11 versioned) (not12 shaped) _ (formed .before .before .lowest-wrong-term .ensures) (formed .if4 .left)
+    _ (c .before .before .lowest-wrong-entry .ensures) (c .if5 .left)
+
+pub check-sheet-spec : {M : Type 1} → statement M
+check-sheet-spec =
+    tie.close
+    (tie.spec
+    wrong-length-requires
+    returns
+    shared-slice-read-if2
+    returns-2
+    wrong-shape-requires
+    returns-3
+    lowest-wrong-term-requires
+    shared-slice-read-if4
+    returns-4
+    lowest-wrong-entry-requires
+    shared-slice-read-if5
+    returns-5
+    returns-6)

@@ -1,0 +1,52 @@
+use Rattle.refusal.specs.Table.{wrongShape}
+use mathlib.Core.Path.{refl}
+use native.Mathlib.Omega.{arith}
+use borrow.Author.Needs.{needs}
+use Rattle.refusal.proofs.wrong_shape.Statement.{statement}
+use Rattle.refusal.proofs.wrong_shape.Tie as tie
+
+shared-slice-read-terms : tie.Need-shared-slice-read-terms
+shared-slice-read-terms c = search needs
+
+cast-terms : tie.Need-cast-terms
+cast-terms c = omega (arith, c .shared-slice-known .given 3)
+
+shared-slice-read-entries : tie.Need-shared-slice-read-entries
+shared-slice-read-entries c = search needs
+
+cast-entries : tie.Need-cast-entries
+cast-entries c = omega (arith, c .shared-slice-known2 .given 4)
+
+shared-slice-read-result : tie.Need-shared-slice-read-result
+shared-slice-read-result c = search needs
+
+mul-result : tie.Need-mul-result
+mul-result c = omega (arith, c .shared-slice-known3 .given 3)
+
+add-result : tie.Need-add-result
+add-result c = omega (arith, c .shared-slice-known3 .given 3)
+
+mul-result-2 : tie.Need-mul-result-2
+mul-result-2 c = omega (arith, c .shared-slice-known3 .given 4)
+
+add-result-2 : tie.Need-add-result-2
+add-result-2 c = omega (arith, c .shared-slice-known3 .given 3, c .shared-slice-known3 .given 4)
+
+returns : tie.Need-returns
+unfolding wrongShape
+returns c = refl
+
+pub wrong-shape-spec : {M : Type 1} → statement M
+wrong-shape-spec =
+    tie.close
+    (tie.spec
+    shared-slice-read-terms
+    cast-terms
+    shared-slice-read-entries
+    cast-entries
+    shared-slice-read-result
+    mul-result
+    add-result
+    mul-result-2
+    add-result-2
+    returns)

@@ -1,0 +1,90 @@
+-- When the panel sends a sheet back: document 01's table, row by row, from bytes and the length of the answer room to a number and a place.
+-- Assumes nothing.
+use Prim.Native.Nat.{ℕ, zero, suc, _+_}
+use mathlib.Core.Bool.{Bool, true, false, not, cond, _||_}
+use mathlib.Core.List.{List}
+use lib.Dec.{ltb, leb, eqb}
+use lib.ListN.{length}
+use Rattle.big.specs.Big.{bigOf}
+use Rattle.sheet.specs.declared.Fields.{Fields}
+use Rattle.sheet.specs.Limits.{maxTerms, maxEntries, sheetLength, roomNeeded}
+use Rattle.sheet.specs.Decode.{byteAt, statedTerms, statedEntries, termPlace, entryPlace, fieldsAt}
+
+-- sent back with a number and a place, or not
+pub data Reply : Type 0 where
+  fine : Reply
+  refused : (number place : ℕ) → Reply
+
+-- checked in that order; the first that applies is given
+infixr 5 _then_
+abbrev pub _then_ : Reply → Reply → Reply
+fine then r = r
+refused number place then r = refused number place
+
+abbrev pub given : Bool → (number place : ℕ) → Reply
+given true number place = refused number place
+given false number place = fine
+
+-- the lowest number below n that is wrong, or n where none is
+unfoldable pub lowest : ℕ → (ℕ → Bool) → ℕ
+lowest zero wrong = 0
+lowest (suc n) wrong = cond (wrong 0) 0 (suc (lowest n (λ i. wrong (suc i))))
+
+abbrev pub givenLowest : ℕ → (ℕ → Bool) → (number : ℕ) → Reply
+givenLowest n wrong number = given (ltb (lowest n wrong) n) number (lowest n wrong)
+
+abbrev pub nonZero : ℕ → Bool
+nonZero x = not (eqb x 0)
+
+abbrev pub notBelow : ℕ → ℕ → Bool
+notBelow a n = leb n a
+
+-- fewer than 6 bytes lent, or bytes 0-1 don't state the lent length
+unfoldable pub wrongLength : List ℕ → Bool
+wrongLength b = ltb (length b) 6 || not (eqb (bigOf b 0 2) (length b))
+
+-- version isn't 1
+unfoldable pub wrongVersion : List ℕ → Bool
+wrongVersion b = not (eqb (byteAt b 2) 1)
+
+-- T is 0 or over its limit, L over its limit, byte 5 not 0, or length not 6 + 6T + 6L
+unfoldable pub wrongShape : List ℕ → Bool
+wrongShape b =
+    let T = statedTerms b in
+    let L = statedEntries b in
+    eqb T 0 || ltb maxTerms T || ltb maxEntries L || nonZero (byteAt b 5) || not (eqb (length b) (sheetLength T L))
+
+-- a kind over 4, a non-zero unused field, or an argument not below the term's own number i
+unfoldable pub wrongByKind : (kind i : ℕ) → Fields → Bool
+wrongByKind zero i f = nonZero (f .symbol) || nonZero (f .a) || nonZero (f .b) || nonZero (f .c)
+wrongByKind (suc zero) i f = nonZero (f .symbol) || nonZero (f .a) || nonZero (f .b)
+wrongByKind (suc (suc zero)) i f = nonZero (f .symbol) || nonZero (f .b) || notBelow (f .a) i
+wrongByKind (suc (suc (suc zero))) i f = nonZero (f .b) || nonZero (f .c) || notBelow (f .a) i
+wrongByKind (suc (suc (suc (suc zero)))) i f = nonZero (f .c) || notBelow (f .a) i || notBelow (f .b) i
+wrongByKind (suc (suc (suc (suc (suc kind))))) i f = true
+
+unfoldable pub wrongTerm : ℕ → Fields → Bool
+wrongTerm i f = wrongByKind (f .kind) i f
+
+-- kind over 3, a non-zero second byte, or a or b not below T
+unfoldable pub wrongEntry : ℕ → Fields → Bool
+wrongEntry T f = ltb 3 (f .kind) || nonZero (f .symbol) || notBelow (f .a) T || notBelow (f .b) T
+
+unfoldable pub wrongTermOf : List ℕ → ℕ → Bool
+wrongTermOf b i = wrongTerm i (fieldsAt b (termPlace i))
+
+unfoldable pub wrongEntryOf : List ℕ → ℕ → Bool
+wrongEntryOf b e = wrongEntry (statedTerms b) (fieldsAt b (entryPlace b e))
+
+-- the sheet's own refusals
+unfoldable pub sheetRefusal : List ℕ → Reply
+sheetRefusal b =
+    given (wrongLength b) 10 0 then
+    given (wrongVersion b) 11 0 then
+    given (wrongShape b) 12 0 then
+    givenLowest (statedTerms b) (wrongTermOf b) 13 then
+    givenLowest (statedEntries b) (wrongEntryOf b) 14
+
+-- and, last, an answer room under what is needed
+unfoldable pub refusal : List ℕ → ℕ → Reply
+refusal b room = sheetRefusal b then given (ltb room roomNeeded) 15 0
