@@ -23,6 +23,34 @@ pub enum Checked {
     Refused(Refusal),
 }
 
+impl Refusal {
+    pub fn number(self) -> u8
+        ensures { λ r. ⌜ r ≡ numberOf self ⌝ }
+    {
+        match self {
+            Refusal::Length => 10,
+            Refusal::Version => 11,
+            Refusal::Shape => 12,
+            Refusal::WrongTerm(_) => 13,
+            Refusal::WrongEntry(_) => 14,
+            Refusal::Room => 15,
+        }
+    }
+
+    pub fn place(self) -> u8
+        ensures { λ r. ⌜ r ≡ placeOf self ⌝ }
+    {
+        match self {
+            Refusal::Length => 0,
+            Refusal::Version => 0,
+            Refusal::Shape => 0,
+            Refusal::WrongTerm(i) => i.0,
+            Refusal::WrongEntry(e) => e.0,
+            Refusal::Room => 0,
+        }
+    }
+}
+
 // What the table says of these bytes and an answer room of this length.
 pub fn check(sheet: &[u8], room: usize) -> Checked
     ensures { λ r. ⌜ checkSays r ≡ refusal (now (sheet .entry)) room ⌝ }

@@ -47,8 +47,11 @@ parts-inj (pos a) (negsuc b) e = absurd (omega arith)
 parts-inj (negsuc a) (pos b) e = absurd (omega arith)
 parts-inj (negsuc a) (negsuc b) e = ap negsuc (omega arith)
 
--- and the product by parts of a difference
+-- y moved by c times D, as an entry compares
+pub moved : (y c : ℤ) (D : ℕ) → plus (y +ℤ c *ℤ pos D) + minus y + minus c * D ≡ plus y + plus c * D + minus (y +ℤ c *ℤ pos D)
+moved y c D = omega (arith, add-parts y (c *ℤ pos D), mul-plus c D, mul-minus c D)
+
+-- and by a difference
 pub scaled : (a b D : ℕ) (y : ℤ) →
     plus (y +ℤ subℕ a b *ℤ pos D) + minus y + b * D ≡ plus y + a * D + minus (y +ℤ subℕ a b *ℤ pos D)
-scaled a b D y =
-    omega (arith, add-parts y (subℕ a b *ℤ pos D), mul-plus (subℕ a b) D, mul-minus (subℕ a b) D, ap (λ (n : ℕ). n * D) (sub-parts a b))
+scaled a b D y = omega (arith, moved y (subℕ a b) D, ap (λ (n : ℕ). n * D) (sub-parts a b))

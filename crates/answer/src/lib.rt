@@ -1,0 +1,2 @@
+// The answer record of document 01: its bytes for holds and for clashes, and what bytes have answer form, in specs/.
+// It rests on big's way of writing numbers and on the sheet's limits; proofs/ shows that a record tells what it was made of.
