@@ -38,6 +38,13 @@ meets-left g h d m = meets-weaken d (omega arith) m
 pub meets-right : (g h : ℕ) {D : ℕ} {x y : ℤ} → 0 < D → Meets D (tighterOf g h) x y → Meets D h x y
 meets-right g h d m = meets-weaken d (omega arith) m
 
+-- what a table starts from
+pub meets-zero : (D : ℕ) (x : ℤ) → Meets D base x x
+meets-zero D x = meets λ s. omega arith
+
+pub meets-none : (D : ℕ) (x y : ℤ) → Meets D none x y
+meets-none D x y = meets λ s. absurd (omega arith)
+
 -- nothing is under itself
 pub under-none : {D g : ℕ} {x : ℤ} → 0 < D → g < base → Meets D g x x → ⊥
 under-none d l m = omega (arith, flat (meets-weaken {h = base - 1} d (omega arith) m) (omega arith))

@@ -2,4 +2,3 @@ pub mod Flat
 pub mod Codes
 pub mod Laws
 pub mod Encode
-pub mod Models

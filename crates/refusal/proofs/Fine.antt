@@ -98,7 +98,7 @@ fine-formed b e =
     let T = terms-stated b in
     let L = entries-stated b in
     let compared : (e : ℕ) → e < statedEntries b → (fieldsAt b (entryPlace b e) .a < statedTerms b) × (fieldsAt b (entryPlace b e) .b < statedTerms b) =
-        λ e l. entry-fine (statedTerms b) (fieldsAt b (entryPlace b e)) (lowest-clear (statedEntries b) (wrongEntryOf b) (ltb-false _ _ entries) e l)
+    λ e l. entry-fine (statedTerms b) (fieldsAt b (entryPlace b e)) (lowest-clear (statedEntries b) (wrongEntryOf b) (ltb-false _ _ entries) e l)
     in
     record {
       some = omega arith;

@@ -6,8 +6,9 @@ ghost use lib.ListN.{length};
 ghost use Rattle.sheet.specs.Decode.{Sized, statedTerms, statedEntries};
 ghost use Rattle.refusal.specs.Table.{sheetRefusal, refusal, wrongLength, wrongShape, wrongTerm, wrongEntry, wrongTermOf, wrongEntryOf, lowest};
 ghost use Rattle.refusal.specs.Says.{checkSays, numberOf, placeOf};
-
-use sheet::{EntryNumber, Fields, TermNumber};
+use sheet::EntryNumber;
+use sheet::Fields;
+use sheet::TermNumber;
 
 pub enum Refusal {
     Length,
@@ -157,7 +158,10 @@ fn wrong_entry_at(sheet: &[u8], e: u8) -> bool
     ensures { λ r. ⌜ r ≡ wrongEntryOf (now (sheet .entry)) e ⌝ }
 {
     let terms = sheet[3];
-    wrong_entry(terms, sheet::fields_at(sheet, 6 + 6 * (terms as usize) + 6 * (e as usize)))
+    wrong_entry(
+        terms,
+        sheet::fields_at(sheet, 6 + 6 * (terms as usize) + 6 * (e as usize)),
+    )
 }
 
 fn wrong_term(i: u8, f: Fields) -> bool

@@ -11,7 +11,6 @@ use borrow.Author.Tests.{ltb-true, ltb-false}
 use Rattle.whole.specs.Whole.{plus, minus, _≤ℤ_, _<ℤ_}
 use Rattle.whole.proofs.Parts.{add-parts, mul-plus, mul-minus, parts-inj}
 
-
 -- of two natural numbers, the first is at most the second or above it
 pub order : (g h : ℕ) → (g ≤ h) ⊎ (h < g)
 order g h = go (ltb h g) refl

@@ -27,7 +27,7 @@ wrong-entry-at-requires : tie.Need-wrong-entry-at-requires Inv-loop μ-loop
 wrong-entry-at-requires c κs = search needs
 
 returns : tie.Need-returns Inv-loop μ-loop
-returns c = 
+returns c =
     let loop = c .before .before .before .loop in
     sym (lowest-found _ _ _ (omega arith) (loop .inv .3) (sym (c .before .wrong-entry-at .ensures) ∙ c .if1 .taken))
 
@@ -38,12 +38,12 @@ loop-less : tie.Need-loop-less Inv-loop μ-loop
 loop-less c = search needs
 
 loop-again : tie.Need-loop-again Inv-loop μ-loop
-loop-again c = 
+loop-again c =
     let loop = c .before .before .before .loop in
     (omega arith, refl, loop .inv .2, below-more _ _ (loop .inv .3) (sym (c .before .wrong-entry-at .ensures) ∙ c .if1 .left))
 
 returns-2 : tie.Need-returns-2 Inv-loop μ-loop
-returns-2 c = 
+returns-2 c =
     let loop = c .before .loop in
     let sheet = now (c .before .before .before .before .args .sheet) in
     omega (arith, lowest-none (statedEntries sheet) (wrongEntryOf sheet) (λ k l. loop .inv .3 k (omega arith)))

@@ -32,7 +32,7 @@ entry-of-requires : tie.Need-entry-of-requires
 entry-of-requires c κs = search needs
 
 returns : tie.Need-returns
-returns c = 
+returns c =
     let start = c .before .before .before .before .before in
     let stated = terms-stated (now (start .args .sheet)) in
     c .entry-of .ensures ∙ ap decodeEntry (c .before .fields-at .ensures ∙ ap (fieldsAt _) (omega arith)) ∙ sym (entry-decoded _ _ (start .pre .1))
