@@ -5,7 +5,7 @@ use libc::STDOUT_FILENO;
 use refusal::Checked;
 
 fn main() {
-    let mut bytes = [0u8; 775];
+    let mut bytes = [0u8; sheet::LONGEST + 1];
     let lent = io::read_full(STDIN_FILENO, &mut bytes);
     match refusal::check(&bytes[..lent], sheet::ROOM_NEEDED) {
         Checked::Refused(why) => {

@@ -1,5 +1,5 @@
-// A sheet's bytes as terms and entries by value, equal to the abstract sheet of specs/, which also holds what it means to hold.
-// It rests on whole, big and order. Its readers ask for a sheet of the stated size and promise nothing of one that isn't.
+// A sheet's bytes as terms and entries by value, equal to the abstract sheet of specs/.
+// It rests on whole and big. Its readers ask for a sheet of the stated size and promise nothing of one that isn't.
 ghost use mathlib.Core.Path.{_≡_};
 ghost use Prim.Native.Nat.{_+_, _≤_, _<_};
 ghost use lib.IntN.{subℕ};
@@ -14,7 +14,9 @@ pub const MAX_TERMS: usize = 64;
 
 pub const MAX_ENTRIES: usize = 64;
 
-// The answer room that every sheet's answer fits in.
+// The length of the longest sheet, and the answer room that every sheet's answer fits in.
+pub const LONGEST: usize = 6 + 6 * MAX_TERMS + 6 * MAX_ENTRIES;
+
 pub const ROOM_NEEDED: usize = 8 + 8 * MAX_TERMS;
 
 // A term number and an entry number: one is never taken for the other.

@@ -1,96 +1,30 @@
--- The starred sheets. Where a sheet holds, D and its terms' values are shown. Where it clashes, the list's entries contradict
--- each other, and for each of them values are shown, with D 1, that meet the list without it and with every lower entry.
+-- The starred sheets: what their bytes say is computed, and what follows from the meaning is `judged`.
 -- Assumes nothing.
-use Prim.Native.Nat.{ℕ, _<_}
-use mathlib.Core.Path.{_≡_, refl, sym, _∙_}
-use mathlib.Core.Bool.{true, true≢false}
-use mathlib.Core.List.{List, [], _∷_}
-use mathlib.Core.Option.{Option, Option·map, IsSome, get}
-use native.Mathlib.Omega.{arith}
-use lib.Dec.{lit<}
-use lib.IntN.{ℤ, pos}
-use lib.ListN.{getD}
-use Rattle.whole.proofs.Parts.{parts-inj}
-use Rattle.order.specs.First.{Set, every, setOf, number}
-use Rattle.order.proofs.Laws.{lower, number-ties, first-of, unique}
+use mathlib.Core.Path.{refl}
 use Rattle.big.specs.Big.{bigOf, signedOf, bytesOf}
-use Rattle.sheet.specs.Limits.{roomNeeded}
-use Rattle.sheet.specs.Sheet.{Sheet, countEntries}
-use Rattle.sheet.specs.Meaning.{one, two, Meet, Holds, Clashes}
 use Rattle.sheet.specs.Decode.{sheetOf, fieldsAt, termOf, relationOf, decodeTerm, decodeEntry, each}
-use Rattle.sheet.proofs.Meaning.{clashes-upward}
-use Rattle.refusal.specs.Table.{fine, refusal, sheetRefusal, wrongLength, wrongVersion, wrongShape, wrongTermOf, wrongEntryOf, wrongTerm, wrongByKind, wrongEntry, lowest}
+use Rattle.meaning.proofs.Judged.{judged}
+use Rattle.refusal.specs.Table.{refusal, sheetRefusal, wrongLength, wrongVersion, wrongShape, wrongTermOf, wrongEntryOf, wrongTerm, wrongByKind, wrongEntry, lowest}
 use Rattle.answer.specs.Record.{clashesRecord}
-use Rattle.starred.specs.Lines.{bytes6, line6}
-use Rattle.starred.specs.Claim.{HoldsAs, ClashesAs, Starred}
-use Rattle.starred.proofs.Check.{only-if, below, meets}
-use Rattle.starred.proofs.Clash.{says, not-apart, plus-zero}
-
-abbrev model : (s : Sheet) (S : Set) → ℕ → List ℕ → Option (Holds s S)
-model s S D values =
-    let n : ℕ → ℤ = λ i. pos (getD values i 0) in
-    Option·map (λ m. record { D = D; n = n; meet = m }) (meets D n s S)
-
-holds : {bytes : List ℕ} {line : Sheet} → refusal bytes roomNeeded ≡ fine → sheetOf bytes ≡ line → (D : ℕ) (values : List ℕ)
-    → IsSome (model line every D values) → HoldsAs bytes line
-holds {line} accepted decodes D values m =
-    record { accepted = accepted; decodes = decodes; holds = get (model line every D values) m }
-
-abbrev models : (s : Sheet) (A : Set) → List (List ℕ) → Option ((x : ℕ) → x < countEntries s → A x ≡ true → Holds s (lower number A x))
-models s A values = below (countEntries s) (λ x. only-if (A x) (model s (lower number A x) 1 (getD values x [])))
-
-clashes : {bytes : List ℕ} {line : Sheet} {list : List ℕ} → refusal bytes roomNeeded ≡ fine → sheetOf bytes ≡ line → ((D : ℕ) (n : ℕ → ℤ) → Meet line (setOf list) D n → ⊥)
-    → (values : List (List ℕ)) → IsSome (models line (setOf list) values) → ClashesAs bytes line list
-clashes {line} {list} accepted decodes clash values m =
-    let L = countEntries line in
-    record {
-      accepted = accepted;
-      decodes = decodes;
-      first =
-          first-of (Clashes line) L number (number-ties L) (clashes-upward line) (setOf list)
-          (λ h. clash (h .D) (h .n) (h .meet)) (λ x l e c. c (get (models line (setOf list) values) m x l e));
-    }
+use Rattle.starred.specs.Claim.{Starred}
 
 pub starred : Starred
-unfolding sheetOf fieldsAt termOf relationOf decodeTerm decodeEntry each bigOf signedOf bytesOf refusal sheetRefusal wrongLength wrongVersion wrongShape wrongTermOf wrongEntryOf wrongTerm wrongByKind wrongEntry lowest clashesRecord
+unfolding bigOf signedOf bytesOf sheetOf fieldsAt termOf relationOf decodeTerm decodeEntry each refusal sheetRefusal wrongLength wrongVersion wrongShape wrongTermOf wrongEntryOf wrongTerm wrongByKind wrongEntry lowest clashesRecord
 starred =
     record {
-      sheet1 =
-          clashes refl refl
-          (λ D n m. not-apart m 2 3 refl (one (parts-inj _ _ (omega (arith, says m 0 refl, says m 1 refl)))) (says m 2 refl .holds))
-          ((1 ∷ 0 ∷ 1 ∷ 0 ∷ []) ∷ (0 ∷ 1 ∷ 0 ∷ 1 ∷ []) ∷ (0 ∷ 0 ∷ 0 ∷ 0 ∷ []) ∷ []) tt;
+      judged = judged;
+      sheet1 = record { accepted = refl; decodes = refl };
+      sheet2 = record { accepted = refl; decodes = refl };
+      sheet3 = record { accepted = refl; decodes = refl };
+      sheet4a = record { accepted = refl; decodes = refl };
+      sheet4b = record { accepted = refl; decodes = refl };
+      sheet4c = record { accepted = refl; decodes = refl };
+      sheet5 = record { accepted = refl; decodes = refl };
+      sheet6 = record { accepted = refl; decodes = refl };
+      sheet7 = record { accepted = refl; decodes = refl };
+      sheet8 = record { accepted = refl; decodes = refl };
+      sheet9 = record { accepted = refl; decodes = refl };
+      sheet10a = record { accepted = refl; decodes = refl };
+      sheet10b = record { accepted = refl; decodes = refl };
       sheet1-answer = refl;
-      sheet2 = holds refl refl 1 (0 ∷ 1 ∷ 0 ∷ 1 ∷ []) tt;
-      sheet3 = holds refl refl 2 (2 ∷ 3 ∷ 4 ∷ 3 ∷ 2 ∷ 4 ∷ []) tt;
-      sheet4a = holds refl refl 1 (0 ∷ 1 ∷ 2 ∷ []) tt;
-      sheet4b =
-          clashes refl refl (λ D n m. omega (arith, says m 0 refl, says m 1 refl, says m 2 refl))
-          ((0 ∷ 0 ∷ 1 ∷ []) ∷ (0 ∷ 1 ∷ 1 ∷ []) ∷ (0 ∷ 1 ∷ 2 ∷ []) ∷ []) tt;
-      sheet4c =
-          clashes refl refl (λ D n m. omega (arith, says m 0 refl, says m 1 refl, says m 2 refl))
-          ((0 ∷ 0 ∷ 1 ∷ []) ∷ (0 ∷ 1 ∷ 1 ∷ []) ∷ (0 ∷ 1 ∷ 2 ∷ []) ∷ []) tt;
-      sheet5 = holds refl refl 2 (0 ∷ 1 ∷ []) tt;
-      sheet5-finer = λ D n m. omega (arith, says m 0 refl, says m 1 refl);
-      sheet6 = sixth;
-      sheet6-alone = λ h. says (h .meet) 3 refl .holds (sym (plus-zero _ _));
-      sheet6-not-first = λ f. true≢false (unique 4 number (number-ties 4) (Clashes line6) _ _ (sixth .first) f 0 (lit< tt));
-      sheet7 = clashes refl refl (λ D n m. omega (arith, says m 0 refl)) ((0 ∷ []) ∷ []) tt;
-      sheet8 =
-          clashes refl refl
-          (λ D n m. not-apart m 2 3 refl (one (m .defined 0 (lit< tt) ∙ sym (m .defined 1 (lit< tt)))) (says m 0 refl .holds))
-          ((5 ∷ 5 ∷ 5 ∷ 5 ∷ []) ∷ []) tt;
-      sheet9 =
-          clashes refl refl
-          (λ D n m. not-apart m 3 4 refl (one (m .defined 2 (lit< tt) ∙ sym (says m 0 refl .holds))) (says m 1 refl .holds))
-          ((0 ∷ 0 ∷ 3 ∷ 3 ∷ 0 ∷ []) ∷ (0 ∷ 3 ∷ 3 ∷ 3 ∷ 3 ∷ []) ∷ []) tt;
-      sheet10a = holds refl refl 1 (0 ∷ 1 ∷ 0 ∷ 1 ∷ []) tt;
-      sheet10b =
-          clashes refl refl
-          (λ D n m. let e = says m 0 refl .holds ∙ plus-zero (n 1) D in not-apart m 2 3 refl (two e (sym e)) (says m 1 refl .holds))
-          ((0 ∷ 1 ∷ 0 ∷ 1 ∷ []) ∷ (0 ∷ 0 ∷ 0 ∷ 0 ∷ []) ∷ []) tt;
     }
-  where
-    sixth : ClashesAs bytes6 line6 (0 ∷ 1 ∷ 2 ∷ [])
-    sixth =
-        clashes refl refl (λ D n m. omega (arith, says m 0 refl, says m 1 refl, says m 2 refl))
-        ((1 ∷ 0 ∷ 0 ∷ []) ∷ (1 ∷ 1 ∷ 0 ∷ []) ∷ (0 ∷ 0 ∷ 0 ∷ []) ∷ []) tt

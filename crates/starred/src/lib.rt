@@ -1,2 +1,2 @@
-// The starred sheets of document 01 as theorems: their bytes decode to what the line says, and the answer follows from the meaning.
-// It rests on sheet and order, and has no code: the claim is in specs/, its proof in proofs/.
+// The starred sheets of document 01 as one claim: their bytes are accepted and decode to the line, and the meaning gives the answer.
+// It rests on every definition so far, and has no code: the claim is in specs/, its proof in proofs/.

@@ -11,7 +11,7 @@ use Rattle.whole.specs.Whole.{plus, minus}
 use Rattle.whole.proofs.Parts.{parts-inj}
 use Rattle.order.specs.First.{Set}
 use Rattle.sheet.specs.Sheet.{Term, unknown, number, shift, apply, apply2, Relation, equal, unequal, atMost, less, Entry, Sheet, countTerms, countEntries, termAt, entryAt}
-use Rattle.sheet.specs.Meaning.{Defined, SameInput, one, two, Compares, EntryTrue, Meet}
+use Rattle.meaning.specs.Meaning.{Defined, SameInput, one, two, Compares, EntryTrue, Meet}
 
 abbrev _>>=_ : {A B : Type 0} → Option A → (A → Option B) → Option B
 _>>=_ none f = none

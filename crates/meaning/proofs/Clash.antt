@@ -12,7 +12,7 @@ use Rattle.whole.specs.Whole.{plus, minus}
 use Rattle.whole.proofs.Parts.{add-parts, moved, parts-inj}
 use Rattle.order.specs.First.{Set}
 use Rattle.sheet.specs.Sheet.{Entry, Sheet, countTerms, countEntries, termAt, entryAt}
-use Rattle.sheet.specs.Meaning.{SameInput, EntryTrue, Meet}
+use Rattle.meaning.specs.Meaning.{SameInput, EntryTrue, Meet}
 
 -- omega takes the parts of n(b) + cD for unknowns, so an entry comes with what they add up to
 pub record Says (D : ℕ) (n : ℕ → ℤ) (e : Entry) : Type 0 where

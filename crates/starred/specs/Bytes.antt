@@ -1,13 +1,7 @@
--- The starred sheets of document 01: each line's bytes, as sheets/ has them, and the abstract sheet that the line says. f and g have symbols 7 and 8.
+-- The bytes of the starred sheets of document 01, as the files of sheets/ have them.
 -- Assumes nothing.
 use Prim.Native.Nat.{ℕ}
 use mathlib.Core.List.{List, [], _∷_}
-use lib.IntN.{ℤ, pos, negsuc}
-use Rattle.sheet.specs.Sheet.{Term, unknown, number, shift, apply, apply2, Relation, equal, unequal, atMost, less, Entry, Sheet}
-
--- term a compared with (term b plus c)
-abbrev pub compare : Relation → ℕ → ℕ → ℤ → Entry
-compare relation a b c = record { relation = relation; a = a; b = b; c = c }
 
 -- 1. x ≤ y, y ≤ x, f(x) ≠ f(y)
 abbrev pub bytes1 : List ℕ
@@ -22,14 +16,6 @@ bytes1 =
     0x01 ∷ 0x00 ∷ 0x02 ∷ 0x03 ∷ 0x00 ∷ 0x00 ∷
     []
 
--- terms x, y, f(x), f(y)
-abbrev pub line1 : Sheet
-line1 =
-    record {
-      terms = unknown ∷ unknown ∷ apply 7 0 ∷ apply 7 1 ∷ [];
-      entries = compare atMost 0 1 (pos 0) ∷ compare atMost 1 0 (pos 0) ∷ compare unequal 2 3 (pos 0) ∷ [];
-    }
-
 -- 2. x ≤ y, f(x) ≠ f(y)
 abbrev pub bytes2 : List ℕ
 bytes2 =
@@ -41,14 +27,6 @@ bytes2 =
     0x02 ∷ 0x00 ∷ 0x00 ∷ 0x01 ∷ 0x00 ∷ 0x00 ∷
     0x01 ∷ 0x00 ∷ 0x02 ∷ 0x03 ∷ 0x00 ∷ 0x00 ∷
     []
-
--- terms x, y, f(x), f(y)
-abbrev pub line2 : Sheet
-line2 =
-    record {
-      terms = unknown ∷ unknown ∷ apply 7 0 ∷ apply 7 1 ∷ [];
-      entries = compare atMost 0 1 (pos 0) ∷ compare unequal 2 3 (pos 0) ∷ [];
-    }
 
 -- 3. 1 ≤ x, x ≤ 2, f(x) ≠ f(1), f(x) ≠ f(2)
 abbrev pub bytes3 : List ℕ
@@ -66,14 +44,6 @@ bytes3 =
     0x01 ∷ 0x00 ∷ 0x03 ∷ 0x05 ∷ 0x00 ∷ 0x00 ∷
     []
 
--- terms 1, x, 2, f(x), f(1), f(2)
-abbrev pub line3 : Sheet
-line3 =
-    record {
-      terms = number (pos 1) ∷ unknown ∷ number (pos 2) ∷ apply 7 1 ∷ apply 7 0 ∷ apply 7 2 ∷ [];
-      entries = compare atMost 0 1 (pos 0) ∷ compare atMost 1 2 (pos 0) ∷ compare unequal 3 4 (pos 0) ∷ compare unequal 3 5 (pos 0) ∷ [];
-    }
-
 -- 4a. x ≤ y - 1, y ≤ z - 1, z ≤ x + 2
 abbrev pub bytes4a : List ℕ
 bytes4a =
@@ -85,14 +55,6 @@ bytes4a =
     0x02 ∷ 0x00 ∷ 0x01 ∷ 0x02 ∷ 0xff ∷ 0xff ∷
     0x02 ∷ 0x00 ∷ 0x02 ∷ 0x00 ∷ 0x00 ∷ 0x02 ∷
     []
-
--- terms x, y, z
-abbrev pub line4a : Sheet
-line4a =
-    record {
-      terms = unknown ∷ unknown ∷ unknown ∷ [];
-      entries = compare atMost 0 1 (negsuc 0) ∷ compare atMost 1 2 (negsuc 0) ∷ compare atMost 2 0 (pos 2) ∷ [];
-    }
 
 -- 4b. x ≤ y - 1, y ≤ z - 1, z < x + 2
 abbrev pub bytes4b : List ℕ
@@ -106,14 +68,6 @@ bytes4b =
     0x03 ∷ 0x00 ∷ 0x02 ∷ 0x00 ∷ 0x00 ∷ 0x02 ∷
     []
 
--- terms x, y, z
-abbrev pub line4b : Sheet
-line4b =
-    record {
-      terms = unknown ∷ unknown ∷ unknown ∷ [];
-      entries = compare atMost 0 1 (negsuc 0) ∷ compare atMost 1 2 (negsuc 0) ∷ compare less 2 0 (pos 2) ∷ [];
-    }
-
 -- 4c. x ≤ y - 1, y ≤ z - 1, z ≤ x + 1
 abbrev pub bytes4c : List ℕ
 bytes4c =
@@ -126,14 +80,6 @@ bytes4c =
     0x02 ∷ 0x00 ∷ 0x02 ∷ 0x00 ∷ 0x00 ∷ 0x01 ∷
     []
 
--- terms x, y, z
-abbrev pub line4c : Sheet
-line4c =
-    record {
-      terms = unknown ∷ unknown ∷ unknown ∷ [];
-      entries = compare atMost 0 1 (negsuc 0) ∷ compare atMost 1 2 (negsuc 0) ∷ compare atMost 2 0 (pos 1) ∷ [];
-    }
-
 -- 5. x < y, y < x + 1
 abbrev pub bytes5 : List ℕ
 bytes5 =
@@ -143,14 +89,6 @@ bytes5 =
     0x03 ∷ 0x00 ∷ 0x00 ∷ 0x01 ∷ 0x00 ∷ 0x00 ∷
     0x03 ∷ 0x00 ∷ 0x01 ∷ 0x00 ∷ 0x00 ∷ 0x01 ∷
     []
-
--- terms x, y
-abbrev pub line5 : Sheet
-line5 =
-    record {
-      terms = unknown ∷ unknown ∷ [];
-      entries = compare less 0 1 (pos 0) ∷ compare less 1 0 (pos 1) ∷ [];
-    }
 
 -- 6. x ≤ y, y ≤ z, z < x, x ≠ x
 abbrev pub bytes6 : List ℕ
@@ -165,14 +103,6 @@ bytes6 =
     0x01 ∷ 0x00 ∷ 0x00 ∷ 0x00 ∷ 0x00 ∷ 0x00 ∷
     []
 
--- terms x, y, z
-abbrev pub line6 : Sheet
-line6 =
-    record {
-      terms = unknown ∷ unknown ∷ unknown ∷ [];
-      entries = compare atMost 0 1 (pos 0) ∷ compare atMost 1 2 (pos 0) ∷ compare less 2 0 (pos 0) ∷ compare unequal 0 0 (pos 0) ∷ [];
-    }
-
 -- 7. x < x, x < x
 abbrev pub bytes7 : List ℕ
 bytes7 =
@@ -181,14 +111,6 @@ bytes7 =
     0x03 ∷ 0x00 ∷ 0x00 ∷ 0x00 ∷ 0x00 ∷ 0x00 ∷
     0x03 ∷ 0x00 ∷ 0x00 ∷ 0x00 ∷ 0x00 ∷ 0x00 ∷
     []
-
--- terms x
-abbrev pub line7 : Sheet
-line7 =
-    record {
-      terms = unknown ∷ [];
-      entries = compare less 0 0 (pos 0) ∷ compare less 0 0 (pos 0) ∷ [];
-    }
 
 -- 8. two number terms of 5, p and q, and f(p) ≠ f(q)
 abbrev pub bytes8 : List ℕ
@@ -200,14 +122,6 @@ bytes8 =
     0x03 ∷ 0x07 ∷ 0x01 ∷ 0x00 ∷ 0x00 ∷ 0x00 ∷
     0x01 ∷ 0x00 ∷ 0x02 ∷ 0x03 ∷ 0x00 ∷ 0x00 ∷
     []
-
--- terms p, q, f(p), f(q)
-abbrev pub line8 : Sheet
-line8 =
-    record {
-      terms = number (pos 5) ∷ number (pos 5) ∷ apply 7 0 ∷ apply 7 1 ∷ [];
-      entries = compare unequal 2 3 (pos 0) ∷ [];
-    }
 
 -- 9. y = x + 3, f(x plus 3) ≠ f(y)
 abbrev pub bytes9 : List ℕ
@@ -222,14 +136,6 @@ bytes9 =
     0x01 ∷ 0x00 ∷ 0x03 ∷ 0x04 ∷ 0x00 ∷ 0x00 ∷
     []
 
--- terms x, y, x plus 3, f(x plus 3), f(y)
-abbrev pub line9 : Sheet
-line9 =
-    record {
-      terms = unknown ∷ unknown ∷ shift 0 (pos 3) ∷ apply 7 2 ∷ apply 7 1 ∷ [];
-      entries = compare equal 1 0 (pos 3) ∷ compare unequal 3 4 (pos 0) ∷ [];
-    }
-
 -- 10a. g(x, y) ≠ g(y, x)
 abbrev pub bytes10a : List ℕ
 bytes10a =
@@ -240,14 +146,6 @@ bytes10a =
     0x04 ∷ 0x08 ∷ 0x01 ∷ 0x00 ∷ 0x00 ∷ 0x00 ∷
     0x01 ∷ 0x00 ∷ 0x02 ∷ 0x03 ∷ 0x00 ∷ 0x00 ∷
     []
-
--- terms x, y, g(x, y), g(y, x)
-abbrev pub line10a : Sheet
-line10a =
-    record {
-      terms = unknown ∷ unknown ∷ apply2 8 0 1 ∷ apply2 8 1 0 ∷ [];
-      entries = compare unequal 2 3 (pos 0) ∷ [];
-    }
 
 -- 10b. x = y, g(x, y) ≠ g(y, x)
 abbrev pub bytes10b : List ℕ
@@ -260,11 +158,3 @@ bytes10b =
     0x00 ∷ 0x00 ∷ 0x00 ∷ 0x01 ∷ 0x00 ∷ 0x00 ∷
     0x01 ∷ 0x00 ∷ 0x02 ∷ 0x03 ∷ 0x00 ∷ 0x00 ∷
     []
-
--- terms x, y, g(x, y), g(y, x)
-abbrev pub line10b : Sheet
-line10b =
-    record {
-      terms = unknown ∷ unknown ∷ apply2 8 0 1 ∷ apply2 8 1 0 ∷ [];
-      entries = compare equal 0 1 (pos 0) ∷ compare unequal 2 3 (pos 0) ∷ [];
-    }

@@ -5,8 +5,8 @@ use Prim.Native.Nat.{ℕ}
 use lib.IntN.{ℤ}
 use Rattle.order.specs.First.{Set, Within, Upward}
 use Rattle.order.proofs.Laws.{upward-not}
 use Rattle.sheet.specs.Sheet.{Sheet, Term, countEntries}
-use Rattle.sheet.specs.Meaning.{SameInput, one, two, Meet, Holds, Clashes}
+use Rattle.meaning.specs.Meaning.{SameInput, one, two, Meet, Holds, Clashes}
 
 pub meet-fewer : (s : Sheet) (A B : Set) (D : ℕ) (n : ℕ → ℤ) → Within (countEntries s) A B → Meet s B D n → Meet s A D n
 meet-fewer s A B D n w m =

@@ -5,13 +5,13 @@ use mathlib.Core.Path.{_≡_}
 use mathlib.Core.Bool.{true}
 use lib.IntN.{ℤ, pos, _+ℤ_, _*ℤ_}
 use Rattle.whole.specs.Whole.{_≤ℤ_, _<ℤ_}
-use Rattle.order.specs.First.{Set, number, First}
-use Rattle.sheet.specs.Sheet.{Term, unknown, number as numberTerm, shift, apply, apply2, Relation, equal, unequal, atMost, less, Entry, Sheet, countTerms, countEntries, termAt, entryAt}
+use Rattle.order.specs.First.{Set, number as byNumber, First}
+use Rattle.sheet.specs.Sheet.{Term, unknown, number, shift, apply, apply2, Relation, equal, unequal, atMost, less, Entry, Sheet, countTerms, countEntries, termAt, entryAt}
 
 -- a number term c has n = cD; a shift has n = n(a) + cD
 abbrev pub Defined : ℕ → (ℕ → ℤ) → ℤ → Term → Type 0
 Defined D n own unknown = Unit
-Defined D n own (numberTerm c) = own ≡ c *ℤ pos D
+Defined D n own (number c) = own ≡ c *ℤ pos D
 Defined D n own (shift a c) = own ≡ n a +ℤ c *ℤ pos D
 Defined D n own (apply symbol a) = Unit
 Defined D n own (apply2 symbol a b) = Unit
@@ -50,4 +50,4 @@ Clashes s S = Holds s S → ⊥
 
 -- the entries of S are the first list in the mission's order that clashes by itself
 abbrev pub FirstClash : Sheet → Set → Type 0
-FirstClash s S = First (Clashes s) (countEntries s) number S
+FirstClash s S = First (Clashes s) (countEntries s) byNumber S
