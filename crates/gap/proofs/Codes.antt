@@ -1,13 +1,12 @@
 -- The algebra of the codes.
 -- Assumes nothing.
-use Prim.Native.Nat.{ℕ, zero, suc, _+_, _*_, _-_, _/_, _%_, _≤_, _<_, min, max}
-use mathlib.Core.Path.{_≡_, refl, sym, _∙_, ap}
+use Prim.Native.Nat.{ℕ, _+_, _*_, _/_, _%_, _≤_, _<_, min, max}
+use mathlib.Core.Path.{_≡_, refl, sym, _∙_}
 use mathlib.Core.Bool.{Bool, true, false}
-use mathlib.Core.Logic.{_⊎_, inl, inr}
 use lib.Dec.{ltb}
 use native.Mathlib.Omega.{arith}
 use borrow.Author.Tests.{ltb-true, ltb-false, lt-ltb, le-ltb}
-use Rattle.gap.specs.Code.{none, half, base, sumOf, sumFinite, tighterOf, Within}
+use Rattle.gap.specs.Code.{none, half, base, sumOf, sumFinite, Within}
 
 -- a gap is there or is none
 pub there : {A : Type 0} (g : ℕ) → (g < none → A) → (none ≤ g → A) → A

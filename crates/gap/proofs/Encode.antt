@@ -1,14 +1,14 @@
 -- A whole number's codes say what it says.
 -- Assumes nothing.
-use Prim.Native.Nat.{ℕ, zero, suc, _+_, _*_, _-_, _/_, _%_, _≤_, _<_}
-use mathlib.Core.Path.{_≡_, refl, sym, _∙_, ap}
+use Prim.Native.Nat.{ℕ, _+_, _*_, _-_, _/_, _≤_, _<_}
+use mathlib.Core.Path.{_≡_}
 use mathlib.Core.Logic.{_↔_}
-use lib.IntN.{ℤ, pos, negsuc, _+ℤ_, _*ℤ_}
+use lib.IntN.{ℤ, pos, _+ℤ_, _*ℤ_}
 use native.Mathlib.Omega.{arith}
 use Rattle.whole.specs.Whole.{plus, minus, _≤ℤ_, _<ℤ_}
-use Rattle.gap.specs.Code.{none, half, base}
-use Rattle.gap.specs.Meets.{Meets, wholeOf}
 use Rattle.whole.proofs.Parts.{parts-inj, sub-parts}
+use Rattle.gap.specs.Code.{half, base}
+use Rattle.gap.specs.Meets.{Meets, wholeOf}
 
 abbrev pub codeOf : ℤ → ℕ
 codeOf c = base + 2 * plus c - 2 * minus c

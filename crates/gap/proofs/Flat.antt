@@ -1,14 +1,14 @@
 -- Meets, flat: one inequality of natural numbers.
 -- Assumes nothing.
-use Prim.Native.Nat.{ℕ, zero, suc, _+_, _*_, _-_, _/_, _%_, _≤_, _<_}
-use mathlib.Core.Path.{_≡_, refl, sym, _∙_, ap}
+use Prim.Native.Nat.{ℕ, zero, suc, _+_, _*_, _/_, _%_, _≤_, _<_}
+use mathlib.Core.Path.{_≡_, refl}
 use mathlib.Core.Logic.{_⊎_, inl, inr, ⊎-elim}
 use lib.IntN.{ℤ}
 use native.Mathlib.Omega.{arith}
 use Rattle.whole.specs.Whole.{plus, minus}
-use Rattle.gap.specs.Code.{none, half, base}
-use Rattle.gap.specs.Meets.{Meets, wholeOf}
 use Rattle.whole.proofs.Parts.{scaled}
+use Rattle.gap.specs.Code.{none, half}
+use Rattle.gap.specs.Meets.{Meets}
 
 pub record Flat (D g : ℕ) (x y : ℤ) : Type 0 where
   pub line : plus x + minus y + g % 2 + half * D ≤ plus y + minus x + (g + 1) / 2 * D

@@ -6,10 +6,10 @@ use mathlib.Core.Logic.{⊎-elim, _↔_}
 use lib.IntN.{ℤ, pos, subℕ, _+ℤ_, _*ℤ_}
 use native.Mathlib.Nat.{mul-le-mul-right, eq-or-lt-of-le, min-eq-left, min-eq-right}
 use native.Mathlib.Omega.{arith}
-use Rattle.gap.specs.Code.{none, half, base, sumOf, tighterOf}
-use Rattle.gap.specs.Meets.{Meets, wholeOf}
 use Rattle.whole.proofs.Parts.{parts-inj, scaled, sub-parts}
 use Rattle.whole.proofs.Order.{order}
+use Rattle.gap.specs.Code.{none, half, base, sumOf, tighterOf}
+use Rattle.gap.specs.Meets.{Meets, wholeOf}
 use Rattle.gap.proofs.Flat.{Flat, flat, meets}
 use Rattle.gap.proofs.Codes.{sum-there, sum-halves, sum-mark, code-is}
 

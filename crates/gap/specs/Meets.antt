@@ -3,8 +3,8 @@
 use Prim.Native.Nat.{ℕ, _+_, _/_, _%_, _<_}
 use mathlib.Core.Path.{_≡_}
 use lib.IntN.{ℤ, pos, subℕ, _+ℤ_, _*ℤ_}
-use Rattle.gap.specs.Code.{none, half}
 use Rattle.whole.specs.Whole.{_≤ℤ_, _<ℤ_}
+use Rattle.gap.specs.Code.{none, half}
 
 -- the whole number of a code: c of base + 2c and of base + 2c - 1
 abbrev pub wholeOf : ℕ → ℤ

@@ -4,9 +4,9 @@ use Prim.Native.Nat.{ℕ, zero, suc, _+_, _≤_, _<_}
 use mathlib.Core.Path.{_≡_}
 use mathlib.Core.Bool.{Bool, true, false, not, false≢true}
 use mathlib.Core.Option.{Option, none, some, Option·map}
-use native.Mathlib.Omega.{arith}
 use lib.Dec.{T, leb, eqb, T-not, leb→le, eqb→eq, eqb-refl}
 use lib.IntN.{ℤ, pos, _+ℤ_, _*ℤ_}
+use native.Mathlib.Omega.{arith}
 use Rattle.whole.specs.Whole.{plus, minus}
 use Rattle.whole.proofs.Parts.{parts-inj}
 use Rattle.order.specs.First.{Set}

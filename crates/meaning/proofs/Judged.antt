@@ -6,18 +6,18 @@ use mathlib.Core.Path.{_≡_, refl, sym, _∙_}
 use mathlib.Core.Bool.{true, true≢false}
 use mathlib.Core.List.{List, [], _∷_}
 use mathlib.Core.Option.{Option, Option·map, IsSome, get}
-use native.Mathlib.Omega.{arith}
 use lib.Dec.{lit<}
 use lib.IntN.{ℤ, pos}
 use lib.ListN.{getD}
+use native.Mathlib.Omega.{arith}
 use Rattle.whole.proofs.Parts.{parts-inj}
 use Rattle.order.specs.First.{Set, every, setOf, number}
 use Rattle.order.proofs.Laws.{lower, number-ties, first-of, unique}
 use Rattle.sheet.specs.Sheet.{Sheet, countEntries}
 use Rattle.meaning.specs.Meaning.{one, two, Meet, Holds, Clashes}
-use Rattle.meaning.proofs.Meaning.{clashes-upward}
 use Rattle.meaning.specs.Lines.{line6}
 use Rattle.meaning.specs.Judged.{HoldsAll, ClashesFirst, Judged}
+use Rattle.meaning.proofs.Meaning.{clashes-upward}
 use Rattle.meaning.proofs.Check.{only-if, below, meets}
 use Rattle.meaning.proofs.Clash.{says, not-apart, plus-zero}
 

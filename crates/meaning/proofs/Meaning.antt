@@ -1,6 +1,5 @@
 -- Laws of the meaning: fewer entries ask for less, and a set that contains a clashing set clashes.
 -- Assumes nothing.
-use mathlib.Core.Path.{_≡_}
 use Prim.Native.Nat.{ℕ}
 use lib.IntN.{ℤ}
 use Rattle.order.specs.First.{Set, Within, Upward}

@@ -1,9 +1,9 @@
 -- The starred sheets of document 01: the abstract sheet that each line says. f and g have symbols 7 and 8.
 -- Assumes nothing.
 use Prim.Native.Nat.{ℕ}
-use mathlib.Core.List.{List, [], _∷_}
+use mathlib.Core.List.{[], _∷_}
 use lib.IntN.{ℤ, pos, negsuc}
-use Rattle.sheet.specs.Sheet.{Term, unknown, number, shift, apply, apply2, Relation, equal, unequal, atMost, less, Entry, Sheet}
+use Rattle.sheet.specs.Sheet.{unknown, number, shift, apply, apply2, Relation, equal, unequal, atMost, less, Entry, Sheet}
 
 -- term a compared with (term b plus c)
 abbrev pub compare : Relation → ℕ → ℕ → ℤ → Entry

@@ -1,14 +1,13 @@
 -- The rising list of a set's numbers: it is one only. Assumes nothing.
-use mathlib.Core.Path.{_≡_, refl, sym, ap, _∙_}
-use mathlib.Core.Bool.{Bool, true, false}
+use Prim.Native.Nat.{ℕ, zero, suc, _≤_, _<_}
+use mathlib.Core.Path.{_≡_, sym, ap, _∙_}
+use mathlib.Core.Bool.{false}
 use mathlib.Core.List.{List}
-use Prim.Native.Nat.{ℕ, zero, suc, _+_, _≤_, _<_}
+use lib.ListN.{getD}
 use native.Mathlib.Omega.{arith}
-use native.Mathlib.Decide.{decLt, ℕ-discrete}
-use lib.ListN.{length, getD, set}
-use lib.Seq.{getD-set-same, getD-set-other}
+use native.Mathlib.Decide.{decLt}
 use Rattle.order.specs.First.{Set, NoTies, Agree, Upward, First, Listed}
-use Rattle.order.proofs.Laws.{clash, unique}
+use Rattle.order.proofs.Laws.{unique}
 
 -- of two lists of one set, the first i numbers are the same
 module _ (L : ℕ) (A B : Set) (b c : List ℕ) (k m : ℕ) (agree : Agree L A B) (p : Listed L A b k) (q : Listed L B c m) where

@@ -1,20 +1,19 @@
 -- A sheet that the table doesn't send back is well-formed.
 -- Assumes nothing.
-use Prim.Native.Nat.{ℕ, zero, suc, _+_, _*_, _≤_, _<_}
-use mathlib.Core.Path.{_≡_, refl, sym, subst}
-use mathlib.Core.Bool.{Bool, true, false, not, _||_, true≢false}
+use Prim.Native.Nat.{ℕ, zero, suc, _≤_, _<_}
+use mathlib.Core.Path.{_≡_, refl}
+use mathlib.Core.Bool.{Bool, true, false, _||_, true≢false}
 use mathlib.Core.List.{List}
-use lib.Dec.{ltb, leb, eqb}
+use lib.Dec.{ltb}
 use lib.ListN.{length}
 use native.Mathlib.Omega.{arith}
 use borrow.Author.Tests.{ltb-false, leb-false, eqb-true, eqb-false, not-false}
-use Rattle.big.specs.Big.{bigOf}
 use Rattle.sheet.specs.declared.Fields.{Fields}
-use Rattle.sheet.specs.Limits.{maxTerms, maxEntries, sheetLength}
-use Rattle.sheet.specs.Sheet.{Term, ArgumentsBelow, of-unknown, of-number, of-shift, of-apply, of-apply2, WellFormed, entryAt}
-use Rattle.sheet.specs.Decode.{byteAt, statedTerms, statedEntries, termPlace, entryPlace, fieldsAt, termOf, decodeTerm, decodeEntry, sheetOf, Sized}
+use Rattle.sheet.specs.Limits.{maxTerms, maxEntries}
+use Rattle.sheet.specs.Sheet.{ArgumentsBelow, of-unknown, of-number, of-shift, of-apply, of-apply2, WellFormed}
+use Rattle.sheet.specs.Decode.{statedTerms, statedEntries, entryPlace, fieldsAt, termOf, decodeTerm, decodeEntry, sheetOf, Sized}
 use Rattle.sheet.proofs.Decode.{terms-stated, entries-stated, term-decoded, entry-decoded}
-use Rattle.refusal.specs.Table.{Reply, fine, refused, _then_, given, nonZero, notBelow, wrongLength, wrongVersion, wrongShape, wrongByKind, wrongTerm, wrongEntry, wrongTermOf, wrongEntryOf, lowest, sheetRefusal}
+use Rattle.refusal.specs.Table.{Reply, fine, _then_, given, nonZero, notBelow, wrongLength, wrongVersion, wrongShape, wrongByKind, wrongTerm, wrongEntry, wrongTermOf, wrongEntryOf, lowest, sheetRefusal}
 use Rattle.refusal.proofs.Lowest.{lowest-clear}
 
 neither : (a b : Bool) → a || b ≡ false → (a ≡ false) × (b ≡ false)

@@ -1,8 +1,8 @@
 -- The lowest wrong number, as a search from the front finds it.
 -- Assumes nothing.
 use Prim.Native.Nat.{ℕ, zero, suc, _≤_, _<_}
-use mathlib.Core.Path.{_≡_, refl, ap, _∙_}
-use mathlib.Core.Bool.{Bool, true, false, cond}
+use mathlib.Core.Path.{_≡_, refl, ap}
+use mathlib.Core.Bool.{Bool, true, false}
 use native.Mathlib.Omega.{arith}
 use Rattle.sheet.specs.declared.Fields.{Fields}
 use Rattle.refusal.specs.Table.{lowest, wrongTerm, wrongByKind}

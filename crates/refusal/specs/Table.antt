@@ -1,6 +1,6 @@
 -- When the panel sends a sheet back: document 01's table, row by row, from bytes and the length of the answer room to a number and a place.
 -- Assumes nothing.
-use Prim.Native.Nat.{ℕ, zero, suc, _+_}
+use Prim.Native.Nat.{ℕ, zero, suc}
 use mathlib.Core.Bool.{Bool, true, false, not, cond, _||_}
 use mathlib.Core.List.{List}
 use lib.Dec.{ltb, leb, eqb}

@@ -5,7 +5,7 @@ ghost use Prim.Native.Nat.{_+_, _*_, _≤_, _<_};
 ghost use lib.ListN.{length};
 ghost use Rattle.sheet.specs.Decode.{Sized, statedTerms, statedEntries};
 ghost use Rattle.refusal.specs.Table.{sheetRefusal, refusal, wrongLength, wrongShape, wrongTerm, wrongEntry, wrongTermOf, wrongEntryOf, lowest};
-ghost use Rattle.refusal.specs.Says.{checkSays, numberOf, placeOf};
+ghost use Rattle.refusal.specs.Says.{checkSays, numberOf, placeOf, countIn, wrongIn};
 use sheet::EntryNumber;
 use sheet::Fields;
 use sheet::TermNumber;
@@ -17,6 +17,12 @@ pub enum Refusal {
     WrongTerm(TermNumber),
     WrongEntry(EntryNumber),
     Room,
+}
+
+// The two runs of records that a sheet has.
+enum Part {
+    Terms,
+    Entries,
 }
 
 pub enum Checked {
@@ -81,11 +87,11 @@ pub fn check_sheet(sheet: &[u8]) -> Checked
     if wrong_shape(sheet) {
         return Checked::Refused(Refusal::Shape);
     }
-    let i = lowest_wrong_term(sheet);
+    let i = lowest_wrong(sheet, Part::Terms);
     if i < sheet[3] {
         return Checked::Refused(Refusal::WrongTerm(TermNumber(i)));
     }
-    let e = lowest_wrong_entry(sheet);
+    let e = lowest_wrong(sheet, Part::Entries);
     if e < sheet[4] {
         return Checked::Refused(Refusal::WrongEntry(EntryNumber(e)));
     }
@@ -114,15 +120,15 @@ fn wrong_shape(sheet: &[u8]) -> bool
         | (sheet.len() != 6 + 6 * terms + 6 * entries)
 }
 
-// The lowest term that is wrong, or T where none is.
-fn lowest_wrong_term(sheet: &[u8]) -> u8
+// The lowest record of the part that is wrong, or the number of its records where none is.
+fn lowest_wrong(sheet: &[u8], part: Part) -> u8
     requires { ⌜ Sized (now sheet) ⌝ }
-    ensures { λ r. ⌜ r ≡ lowest (statedTerms (now (sheet .entry))) (wrongTermOf (now (sheet .entry))) ⌝ }
+    ensures { λ r. ⌜ r ≡ lowest (countIn part (now (sheet .entry))) (wrongIn part (now (sheet .entry))) ⌝ }
 {
-    let terms = sheet[3];
+    let count = count_in(sheet, part);
     let mut i: u8 = 0;
-    while i < terms {
-        if wrong_term_at(sheet, i) {
+    while i < count {
+        if wrong_in(sheet, part, i) {
             return i;
         }
         i += 1;
@@ -130,20 +136,24 @@ fn lowest_wrong_term(sheet: &[u8]) -> u8
     i
 }
 
-// The lowest entry that is wrong, or L where none is.
-fn lowest_wrong_entry(sheet: &[u8]) -> u8
-    requires { ⌜ Sized (now sheet) ⌝ }
-    ensures { λ r. ⌜ r ≡ lowest (statedEntries (now (sheet .entry))) (wrongEntryOf (now (sheet .entry))) ⌝ }
+fn count_in(sheet: &[u8], part: Part) -> u8
+    requires { ⌜ 6 ≤ length (now sheet) ⌝ }
+    ensures { λ r. ⌜ r ≡ countIn part (now (sheet .entry)) ⌝ }
 {
-    let entries = sheet[4];
-    let mut e: u8 = 0;
-    while e < entries {
-        if wrong_entry_at(sheet, e) {
-            return e;
-        }
-        e += 1;
+    match part {
+        Part::Terms => sheet[3],
+        Part::Entries => sheet[4],
     }
-    e
+}
+
+fn wrong_in(sheet: &[u8], part: Part, i: u8) -> bool
+    requires { ⌜ Sized (now sheet) × (i < countIn part (now sheet)) ⌝ }
+    ensures { λ r. ⌜ r ≡ wrongIn part (now (sheet .entry)) i ⌝ }
+{
+    match part {
+        Part::Terms => wrong_term_at(sheet, i),
+        Part::Entries => wrong_entry_at(sheet, i),
+    }
 }
 
 fn wrong_term_at(sheet: &[u8], i: u8) -> bool

@@ -1,6 +1,5 @@
 -- What the code's enums and structs say, in the abstract sheet's terms.
 -- Assumes nothing.
-use Prim.Native.Nat.{ℕ}
 use lib.IntN.{ℤ, subℕ}
 use Rattle.sheet.specs.declared.Biased.{Biased}
 use Rattle.sheet.specs.declared.Term.{Term as Code-Term}

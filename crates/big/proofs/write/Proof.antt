@@ -1,10 +1,10 @@
 -- `big::write` meets its contract: the bytes are written from the last to the first (Writing.antt). Assumes nothing.
-use mathlib.Core.Path.{_≡_, refl}
 use Prim.Native.Nat.{_≤_}
+use mathlib.Core.Path.{_≡_, refl}
 use lib.ListN.{length, length-set}
-use Rattle.big.proofs.Writing.{Written, write-start, write-again, write-end}
 use native.Mathlib.Omega.{arith}
 use borrow.Author.Needs.{needs}
+use Rattle.big.proofs.Writing.{Written, write-start, write-again, write-end}
 use Rattle.big.proofs.write.Statement.{statement}
 use Rattle.big.proofs.write.Tie as tie
 

@@ -1,16 +1,15 @@
 -- `refusal::check_sheet` meets its contract: at each `return` the rows above it don't apply, and the row's own test does.
 -- Assumes nothing.
+use Prim.Native.Nat.{_≤_}
 use mathlib.Core.Path.{_≡_, sym, ap, _∙_}
 use mathlib.Core.Bool.{false, not}
-use Prim.Native.Nat.{_≤_, _<_}
-use lib.Dec.{ltb}
 use lib.ListN.{length}
-use borrow.Author.Needs.{needs}
-use borrow.Author.Tests.{lt-ltb, le-ltb, eq-eqb, ne-eqb}
-use denote.Ref.{now}
 use native.Mathlib.Omega.{arith}
-use Rattle.sheet.specs.Decode.{Sized, statedTerms, statedEntries}
-use Rattle.refusal.specs.Table.{wrongLength, wrongVersion, wrongShape, wrongTermOf, wrongEntryOf, lowest, sheetRefusal}
+use borrow.Author.Needs.{needs}
+use borrow.Author.Tests.{eq-eqb, ne-eqb}
+use denote.Ref.{now}
+use Rattle.sheet.specs.Decode.{Sized}
+use Rattle.refusal.specs.Table.{wrongLength, wrongVersion, wrongShape, sheetRefusal}
 use Rattle.refusal.proofs.Fine.{length-fine, shape-fine}
 use Rattle.refusal.proofs.Rows.{row13, row14, no-row}
 use Rattle.refusal.proofs.check_sheet.Statement.{statement}
@@ -54,8 +53,8 @@ returns-3 : tie.Need-returns-3
 unfolding sheetRefusal
 returns-3 c = rw (not10 (c .before .before .before .before), not11 (c .before .before), sym (c .before .wrong-shape .ensures) ∙ c .if3 .taken)
 
-lowest-wrong-term-requires : tie.Need-lowest-wrong-term-requires
-lowest-wrong-term-requires c κs = sized c
+lowest-wrong-requires : tie.Need-lowest-wrong-requires
+lowest-wrong-requires c κs = sized c
 
 shared-slice-read-if4 : tie.Need-shared-slice-read-if4
 shared-slice-read-if4 c = omega (arith, six (c .before .before .before .before .before .before))
@@ -64,10 +63,10 @@ returns-4 : tie.Need-returns-4
 returns-4 c =
     let shaped = c .before .before .before in
     let versioned = shaped .before .before in
-    row13 _ (not10 (versioned .before .before)) (not11 versioned) (not12 shaped) _ (c .before .before .lowest-wrong-term .ensures) (c .if4 .taken)
+    row13 _ (not10 (versioned .before .before)) (not11 versioned) (not12 shaped) _ (c .before .before .lowest-wrong .ensures) (c .if4 .taken)
 
-lowest-wrong-entry-requires : tie.Need-lowest-wrong-entry-requires
-lowest-wrong-entry-requires c κs = sized (c .before .before .before)
+lowest-wrong-requires-2 : tie.Need-lowest-wrong-requires-2
+lowest-wrong-requires-2 c κs = sized (c .before .before .before)
 
 shared-slice-read-if5 : tie.Need-shared-slice-read-if5
 shared-slice-read-if5 c = omega (arith, six (c .before .before .before .before .before .before .before .before .before))
@@ -77,16 +76,16 @@ returns-5 c =
     let formed = c .before .before .before in
     let shaped = formed .before .before .before in
     let versioned = shaped .before .before in
-    row14 _ (not10 (versioned .before .before)) (not11 versioned) (not12 shaped) _ (formed .before .before .lowest-wrong-term .ensures) (formed .if4 .left)
-    _ (c .before .before .lowest-wrong-entry .ensures) (c .if5 .taken)
+    row14 _ (not10 (versioned .before .before)) (not11 versioned) (not12 shaped) _ (formed .before .before .lowest-wrong .ensures) (formed .if4 .left)
+    _ (c .before .before .lowest-wrong2 .ensures) (c .if5 .taken)
 
 returns-6 : tie.Need-returns-6
 returns-6 c =
     let formed = c .before .before .before in
     let shaped = formed .before .before .before in
     let versioned = shaped .before .before in
-    no-row _ (not10 (versioned .before .before)) (not11 versioned) (not12 shaped) _ (formed .before .before .lowest-wrong-term .ensures) (formed .if4 .left)
-    _ (c .before .before .lowest-wrong-entry .ensures) (c .if5 .left)
+    no-row _ (not10 (versioned .before .before)) (not11 versioned) (not12 shaped) _ (formed .before .before .lowest-wrong .ensures) (formed .if4 .left)
+    _ (c .before .before .lowest-wrong2 .ensures) (c .if5 .left)
 
 pub check-sheet-spec : {M : Type 1} → statement M
 check-sheet-spec =
@@ -98,10 +97,10 @@ check-sheet-spec =
     returns-2
     wrong-shape-requires
     returns-3
-    lowest-wrong-term-requires
+    lowest-wrong-requires
     shared-slice-read-if4
     returns-4
-    lowest-wrong-entry-requires
+    lowest-wrong-requires-2
     shared-slice-read-if5
     returns-5
     returns-6)

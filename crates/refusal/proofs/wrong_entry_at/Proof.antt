@@ -1,7 +1,7 @@
-use Rattle.refusal.specs.Table.{wrongEntry, wrongEntryOf}
 use mathlib.Core.Path.{ap, _∙_}
 use native.Mathlib.Omega.{arith}
 use borrow.Author.Needs.{needs}
+use Rattle.refusal.specs.Table.{wrongEntry, wrongEntryOf}
 use Rattle.refusal.proofs.wrong_entry_at.Statement.{statement}
 use Rattle.refusal.proofs.wrong_entry_at.Tie as tie
 

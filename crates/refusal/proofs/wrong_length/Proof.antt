@@ -1,7 +1,6 @@
-use Rattle.refusal.specs.Table.{wrongLength}
 use borrow.Author.Tests.{lt-ltb, le-ltb}
-use native.Mathlib.Omega.{arith}
 use borrow.Author.Needs.{needs}
+use Rattle.refusal.specs.Table.{wrongLength}
 use Rattle.refusal.proofs.wrong_length.Statement.{statement}
 use Rattle.refusal.proofs.wrong_length.Tie as tie
 

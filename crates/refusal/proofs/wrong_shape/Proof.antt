@@ -1,7 +1,7 @@
-use Rattle.refusal.specs.Table.{wrongShape}
 use mathlib.Core.Path.{refl}
 use native.Mathlib.Omega.{arith}
 use borrow.Author.Needs.{needs}
+use Rattle.refusal.specs.Table.{wrongShape}
 use Rattle.refusal.proofs.wrong_shape.Statement.{statement}
 use Rattle.refusal.proofs.wrong_shape.Tie as tie
 

@@ -1,8 +1,6 @@
-use Rattle.refusal.proofs.Lowest.{wrong-other}
-use Rattle.refusal.specs.Table.{wrongTerm, wrongByKind}
 use mathlib.Core.Path.{sym}
-use native.Mathlib.Omega.{arith}
-use borrow.Author.Needs.{needs}
+use Rattle.refusal.specs.Table.{wrongTerm, wrongByKind}
+use Rattle.refusal.proofs.Lowest.{wrong-other}
 use Rattle.refusal.proofs.wrong_term.Statement.{statement}
 use Rattle.refusal.proofs.wrong_term.Tie as tie
 

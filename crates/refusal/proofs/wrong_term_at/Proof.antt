@@ -1,7 +1,6 @@
-use Rattle.refusal.specs.Table.{wrongTerm, wrongTermOf}
 use mathlib.Core.Path.{ap, _∙_}
-use native.Mathlib.Omega.{arith}
 use borrow.Author.Needs.{needs}
+use Rattle.refusal.specs.Table.{wrongTerm, wrongTermOf}
 use Rattle.refusal.proofs.wrong_term_at.Statement.{statement}
 use Rattle.refusal.proofs.wrong_term_at.Tie as tie
 

@@ -1,7 +1,6 @@
 use mathlib.Core.Path.{refl}
-use Rattle.big.proofs.Signed.{signed-biased-low, signed-biased-high}
-use native.Mathlib.Omega.{arith}
 use borrow.Author.Needs.{needs}
+use Rattle.big.proofs.Signed.{signed-biased-low, signed-biased-high}
 use Rattle.sheet.proofs.biased_of.Statement.{statement}
 use Rattle.sheet.proofs.biased_of.Tie as tie
 

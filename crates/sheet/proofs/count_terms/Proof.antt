@@ -1,7 +1,7 @@
-use Rattle.sheet.proofs.Decode.{terms-stated}
 use mathlib.Core.Path.{sym}
 use native.Mathlib.Omega.{arith}
 use borrow.Author.Needs.{needs}
+use Rattle.sheet.proofs.Decode.{terms-stated}
 use Rattle.sheet.proofs.count_terms.Statement.{statement}
 use Rattle.sheet.proofs.count_terms.Tie as tie
 

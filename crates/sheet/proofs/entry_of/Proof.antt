@@ -1,6 +1,5 @@
-use Rattle.sheet.specs.Decode.{decodeEntry}
-use native.Mathlib.Omega.{arith}
 use borrow.Author.Needs.{needs}
+use Rattle.sheet.specs.Decode.{decodeEntry}
 use Rattle.sheet.proofs.entry_of.Statement.{statement}
 use Rattle.sheet.proofs.entry_of.Tie as tie
 

@@ -1,8 +1,6 @@
-use Rattle.sheet.specs.Decode.{fieldsAt}
-use Prim.Native.Nat.{ℕ}
-use mathlib.Core.Path.{ap}
 use native.Mathlib.Omega.{arith}
 use borrow.Author.Needs.{needs}
+use Rattle.sheet.specs.Decode.{fieldsAt}
 use Rattle.sheet.proofs.fields_at.Statement.{statement}
 use Rattle.sheet.proofs.fields_at.Tie as tie
 

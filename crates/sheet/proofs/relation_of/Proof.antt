@@ -1,8 +1,6 @@
 use mathlib.Core.Path.{sym, ap}
 use Rattle.sheet.specs.Decode.{relationOf}
 use Rattle.sheet.proofs.Decode.{relation-other}
-use native.Mathlib.Omega.{arith}
-use borrow.Author.Needs.{needs}
 use Rattle.sheet.proofs.relation_of.Statement.{statement}
 use Rattle.sheet.proofs.relation_of.Tie as tie
 

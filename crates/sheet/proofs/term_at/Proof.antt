@@ -1,9 +1,9 @@
-use Rattle.sheet.proofs.Decode.{terms-stated, term-decoded}
-use Rattle.sheet.specs.Decode.{decodeTerm}
-use denote.Ref.{now}
 use mathlib.Core.Path.{sym, ap, _∙_}
 use native.Mathlib.Omega.{arith}
 use borrow.Author.Needs.{needs}
+use denote.Ref.{now}
+use Rattle.sheet.specs.Decode.{decodeTerm}
+use Rattle.sheet.proofs.Decode.{terms-stated, term-decoded}
 use Rattle.sheet.proofs.term_at.Statement.{statement}
 use Rattle.sheet.proofs.term_at.Tie as tie
 

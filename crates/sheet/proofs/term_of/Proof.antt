@@ -1,8 +1,7 @@
-use Rattle.sheet.proofs.Decode.{term-other}
-use Rattle.sheet.specs.Decode.{termOf, decodeTerm}
 use mathlib.Core.Path.{sym}
-use native.Mathlib.Omega.{arith}
 use borrow.Author.Needs.{needs}
+use Rattle.sheet.specs.Decode.{termOf, decodeTerm}
+use Rattle.sheet.proofs.Decode.{term-other}
 use Rattle.sheet.proofs.term_of.Statement.{statement}
 use Rattle.sheet.proofs.term_of.Tie as tie
 
