@@ -78,14 +78,7 @@ last-passed : (t : Bool) (number place : ℕ) → given t number place ≡ fine 
 last-passed true number place e = let z : _≡_ {A = ℕ} 0 1 = cc in absurd (omega arith)
 last-passed false number place e = refl
 
-pub fine-sized : (b : List ℕ) → sheetRefusal b ≡ fine → Sized b
-unfolding sheetRefusal
-fine-sized b e =
-    let (_, e₁) = passed (wrongLength b) 10 0 _ e in
-    let (_, e₂) = passed (wrongVersion b) 11 0 _ e₁ in
-    shape-fine b (passed (wrongShape b) 12 0 _ e₂ .0) .sized
-
-pub fine-formed : (b : List ℕ) → sheetRefusal b ≡ fine → WellFormed (sheetOf b)
+pub fine-formed : (b : List ℕ) → sheetRefusal b ≡ fine → Sized b × WellFormed (sheetOf b)
 unfolding sheetRefusal wrongTermOf wrongEntryOf decodeEntry
 fine-formed b e =
     let (_, e₁) = passed (wrongLength b) 10 0 _ e in
@@ -97,13 +90,15 @@ fine-formed b e =
     let T = terms-stated b in
     let L = entries-stated b in
     let compared : (e : ℕ) → e < statedEntries b → (fieldsAt b (entryPlace b e) .a < statedTerms b) × (fieldsAt b (entryPlace b e) .b < statedTerms b) =
-    λ e l. entry-fine (statedTerms b) (fieldsAt b (entryPlace b e)) (lowest-clear (statedEntries b) (wrongEntryOf b) (ltb-false _ _ entries) e l)
-    in
-    record {
-      some = omega arith;
-      terms = omega arith;
-      entries = omega arith;
-      arguments = λ i l. rw (term-decoded b i l) (term-fine i _ (lowest-clear (statedTerms b) (wrongTermOf b) (ltb-false _ _ terms) i (omega arith)));
-      left = λ e l. rw (entry-decoded b e l, T) (compared e (omega arith) .0);
-      right = λ e l. rw (entry-decoded b e l, T) (compared e (omega arith) .1);
-    }
+    λ e l. entry-fine _ _ (lowest-clear (statedEntries b) (wrongEntryOf b) (ltb-false _ _ entries) e l)
+    in (
+      shaped .sized,
+      record {
+        some = omega arith;
+        terms = omega arith;
+        entries = omega arith;
+        arguments = λ i l. rw (term-decoded b i l) (term-fine i _ (lowest-clear (statedTerms b) (wrongTermOf b) (ltb-false _ _ terms) i (omega arith)));
+        left = λ e l. rw (entry-decoded b e l, T) (compared e (omega arith) .0);
+        right = λ e l. rw (entry-decoded b e l, T) (compared e (omega arith) .1);
+      },
+    )

@@ -4,8 +4,7 @@ use Prim.Native.Nat.{ℕ, zero, suc, _≤_, _<_}
 use mathlib.Core.Path.{_≡_, refl, ap}
 use mathlib.Core.Bool.{Bool, true, false}
 use native.Mathlib.Omega.{arith}
-use Rattle.sheet.specs.declared.Fields.{Fields}
-use Rattle.refusal.specs.Table.{lowest, wrongTerm, wrongByKind}
+use Rattle.refusal.specs.Table.{lowest}
 
 pub lowest-found : (n : ℕ) (wrong : ℕ → Bool) (i : ℕ) → i < n → ((k : ℕ) → k < i → wrong k ≡ false) → wrong i ≡ true → lowest n wrong ≡ i
 unfolding lowest
@@ -31,17 +30,3 @@ lowest-clear (suc n) wrong h k l = go (wrong 0) refl k l (lowest-clear n (λ i. 
     go false e zero l later = e
     go false e (suc k) l later =
         let some : suc n ≤ suc (lowest n (λ i. wrong (suc i))) = rw e at h in later (omega arith) k (omega arith)
-
--- a kind over 4
-pub wrong-other : (i : ℕ) (f : Fields) → (f .kind ≡ 0 → ⊥) → (f .kind ≡ 1 → ⊥) → (f .kind ≡ 2 → ⊥) → (f .kind ≡ 3 → ⊥) → (f .kind ≡ 4 → ⊥)
-    → wrongTerm i f ≡ true
-unfolding wrongTerm wrongByKind
-wrong-other i f = go (f .kind)
-  where
-    go : (k : ℕ) → (k ≡ 0 → ⊥) → (k ≡ 1 → ⊥) → (k ≡ 2 → ⊥) → (k ≡ 3 → ⊥) → (k ≡ 4 → ⊥) → wrongByKind k i f ≡ true
-    go zero p q r s t = absurd (p refl)
-    go (suc zero) p q r s t = absurd (q refl)
-    go (suc (suc zero)) p q r s t = absurd (r refl)
-    go (suc (suc (suc zero))) p q r s t = absurd (s refl)
-    go (suc (suc (suc (suc zero)))) p q r s t = absurd (t refl)
-    go (suc (suc (suc (suc (suc k))))) p q r s t = refl

@@ -5,9 +5,8 @@ use mathlib.Core.Path.{_≡_, refl, ap}
 use mathlib.Core.List.{List}
 use lib.ListN.{length, getD}
 use native.Mathlib.Omega.{arith}
-use Rattle.sheet.specs.declared.Fields.{Fields}
-use Rattle.sheet.specs.Sheet.{unknown, equal, countTerms, countEntries, termAt, entryAt}
-use Rattle.sheet.specs.Decode.{statedTerms, statedEntries, termPlace, entryPlace, fieldsAt, termOf, relationOf, decodeTerm, decodeEntry, each, sheetOf}
+use Rattle.sheet.specs.Sheet.{countTerms, countEntries, termAt, entryAt}
+use Rattle.sheet.specs.Decode.{statedTerms, statedEntries, termPlace, entryPlace, fieldsAt, decodeTerm, decodeEntry, each, sheetOf}
 
 length-each : {A : Type 0} (n : ℕ) (f : ℕ → A) → length (each n f) ≡ n
 unfolding each
@@ -35,24 +34,3 @@ term-decoded b i h = getD-each (statedTerms b) _ _ i (rw (length-each (statedTer
 pub entry-decoded : (b : List ℕ) (e : ℕ) → e < countEntries (sheetOf b) → entryAt (sheetOf b) e ≡ decodeEntry (fieldsAt b (entryPlace b e))
 unfolding sheetOf
 entry-decoded b e h = getD-each (statedEntries b) _ _ e (rw (length-each (statedEntries b)) at h)
-
--- what the code's last arms say: a kind that no other arm has
-pub term-other : (f : Fields) → (f .kind ≡ 1 → ⊥) → (f .kind ≡ 2 → ⊥) → (f .kind ≡ 3 → ⊥) → (f .kind ≡ 4 → ⊥) → decodeTerm f ≡ unknown
-unfolding decodeTerm termOf
-term-other f = go (f .kind)
-  where
-    go : (k : ℕ) → (k ≡ 1 → ⊥) → (k ≡ 2 → ⊥) → (k ≡ 3 → ⊥) → (k ≡ 4 → ⊥) → termOf k f ≡ unknown
-    go zero p q r s = refl
-    go (suc zero) p q r s = absurd (p refl)
-    go (suc (suc zero)) p q r s = absurd (q refl)
-    go (suc (suc (suc zero))) p q r s = absurd (r refl)
-    go (suc (suc (suc (suc zero)))) p q r s = absurd (s refl)
-    go (suc (suc (suc (suc (suc k))))) p q r s = refl
-
-pub relation-other : (k : ℕ) → (k ≡ 1 → ⊥) → (k ≡ 2 → ⊥) → (k ≡ 3 → ⊥) → relationOf k ≡ equal
-unfolding relationOf
-relation-other zero p q r = refl
-relation-other (suc zero) p q r = absurd (p refl)
-relation-other (suc (suc zero)) p q r = absurd (q refl)
-relation-other (suc (suc (suc zero))) p q r = absurd (r refl)
-relation-other (suc (suc (suc (suc k)))) p q r = refl

@@ -1,15 +1,15 @@
 -- The order of the whole numbers: its laws, and that it is the one that is meant.
 -- Assumes nothing.
-use Prim.Native.Nat.{ℕ, _+_, _*_, _-_, _≤_, _<_}
-use mathlib.Core.Path.{_≡_, refl, ap}
+use Prim.Native.Nat.{ℕ, _+_, _-_, _≤_, _<_}
+use mathlib.Core.Path.{_≡_, refl}
 use mathlib.Core.Bool.{Bool, true, false}
 use mathlib.Core.Logic.{_⊎_, inl, inr, ⊎-elim, _↔_}
-use lib.IntN.{ℤ, pos, _+ℤ_, _*ℤ_}
+use lib.IntN.{ℤ, pos, _+ℤ_}
 use lib.Dec.{ltb}
 use native.Mathlib.Omega.{arith}
 use borrow.Author.Tests.{ltb-true, ltb-false}
 use Rattle.whole.specs.Whole.{plus, minus, _≤ℤ_, _<ℤ_}
-use Rattle.whole.proofs.Parts.{add-parts, mul-plus, mul-minus, parts-inj}
+use Rattle.whole.proofs.Parts.{add-parts, parts-inj}
 
 -- of two natural numbers, the first is at most the second or above it
 pub order : (g h : ℕ) → (g ≤ h) ⊎ (h < g)
@@ -43,18 +43,3 @@ pub ≤ℤ-less : (x y : ℤ) → x ≤ℤ y → (k : ℕ) × (y ≡ x +ℤ pos 
 ≤ℤ-less x y p =
     let k : ℕ = plus y + minus x - (plus x + minus y) in
     (k, parts-inj y (x +ℤ pos k) (omega (arith, add-parts x (pos k))))
-
-pub distrib : (a b : ℤ) (D : ℕ) → (a +ℤ b) *ℤ pos D ≡ a *ℤ pos D +ℤ b *ℤ pos D
-distrib a b D =
-    parts-inj _ _
-    (omega (
-      arith,
-      add-parts (a *ℤ pos D) (b *ℤ pos D),
-      ap (λ (n : ℕ). n * D) (add-parts a b),
-      mul-plus (a +ℤ b) D,
-      mul-minus (a +ℤ b) D,
-      mul-plus a D,
-      mul-minus a D,
-      mul-plus b D,
-      mul-minus b D,
-    ))

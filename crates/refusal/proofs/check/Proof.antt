@@ -1,3 +1,5 @@
+-- `refusal::check` meets its contract: the sheet's own refusals first, then the answer room.
+-- Assumes nothing.
 use mathlib.Core.Path.{sym, ap, _∙_}
 use borrow.Author.Needs.{needs}
 use Rattle.refusal.specs.Says.{checkSays}

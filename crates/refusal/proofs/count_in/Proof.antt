@@ -1,3 +1,5 @@
+-- `refusal::count_in` meets its contract, part by part.
+-- Assumes nothing.
 use borrow.Author.Needs.{needs}
 use Rattle.refusal.proofs.count_in.Statement.{statement}
 use Rattle.refusal.proofs.count_in.Tie as tie

@@ -1,3 +1,5 @@
+-- `refusal::lowest_wrong` meets its contract: the records before i aren't wrong.
+-- Assumes nothing.
 use Prim.Native.Nat.{ℕ, _-_, _≤_, _<_}
 use mathlib.Core.Bool.{false}
 use mathlib.Core.Path.{_≡_, sym, _∙_}

@@ -1,3 +1,5 @@
+-- `refusal::wrong_entry` meets its contract: the code's test computes to the definition's.
+-- Assumes nothing.
 use mathlib.Core.Path.{refl}
 use Rattle.refusal.specs.Table.{wrongEntry}
 use Rattle.refusal.proofs.wrong_entry.Statement.{statement}

@@ -1,3 +1,5 @@
+-- `refusal::wrong_entry_at` meets its contract: the entry's record is within a sheet of the stated size.
+-- Assumes nothing.
 use mathlib.Core.Path.{ap, _∙_}
 use native.Mathlib.Omega.{arith}
 use borrow.Author.Needs.{needs}

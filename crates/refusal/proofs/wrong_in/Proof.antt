@@ -1,3 +1,5 @@
+-- `refusal::wrong_in` meets its contract, part by part.
+-- Assumes nothing.
 use borrow.Author.Needs.{needs}
 use Rattle.refusal.proofs.wrong_in.Statement.{statement}
 use Rattle.refusal.proofs.wrong_in.Tie as tie

@@ -1,3 +1,5 @@
+-- `refusal::wrong_length` meets its contract: bytes 0-1 are read only where they are there.
+-- Assumes nothing.
 use borrow.Author.Tests.{lt-ltb, le-ltb}
 use borrow.Author.Needs.{needs}
 use Rattle.refusal.specs.Table.{wrongLength}

@@ -1,3 +1,5 @@
+-- `refusal::wrong_shape` meets its contract: the code's test computes to the definition's.
+-- Assumes nothing.
 use mathlib.Core.Path.{refl}
 use native.Mathlib.Omega.{arith}
 use borrow.Author.Needs.{needs}

@@ -1,8 +1,26 @@
-use mathlib.Core.Path.{sym}
+-- `refusal::wrong_term` meets its contract, arm by arm.
+-- Assumes nothing.
+use Prim.Native.Nat.{ℕ, zero, suc}
+use mathlib.Core.Path.{_≡_, refl, sym}
+use mathlib.Core.Bool.{true}
+use Rattle.sheet.specs.declared.Fields.{Fields}
 use Rattle.refusal.specs.Table.{wrongTerm, wrongByKind}
-use Rattle.refusal.proofs.Lowest.{wrong-other}
 use Rattle.refusal.proofs.wrong_term.Statement.{statement}
 use Rattle.refusal.proofs.wrong_term.Tie as tie
+
+-- the last arm: a kind over 4
+wrong-other : (i : ℕ) (f : Fields) → (f .kind ≡ 0 → ⊥) → (f .kind ≡ 1 → ⊥) → (f .kind ≡ 2 → ⊥) → (f .kind ≡ 3 → ⊥) → (f .kind ≡ 4 → ⊥)
+    → wrongTerm i f ≡ true
+unfolding wrongTerm wrongByKind
+wrong-other i f = go (f .kind)
+  where
+    go : (k : ℕ) → (k ≡ 0 → ⊥) → (k ≡ 1 → ⊥) → (k ≡ 2 → ⊥) → (k ≡ 3 → ⊥) → (k ≡ 4 → ⊥) → wrongByKind k i f ≡ true
+    go zero p q r s t = absurd (p refl)
+    go (suc zero) p q r s t = absurd (q refl)
+    go (suc (suc zero)) p q r s t = absurd (r refl)
+    go (suc (suc (suc zero))) p q r s t = absurd (s refl)
+    go (suc (suc (suc (suc zero)))) p q r s t = absurd (t refl)
+    go (suc (suc (suc (suc (suc k))))) p q r s t = refl
 
 returns : tie.Need-returns
 unfolding wrongTerm wrongByKind

@@ -1,3 +1,5 @@
+-- `refusal::wrong_term_at` meets its contract: the term's record is within a sheet of the stated size.
+-- Assumes nothing.
 use mathlib.Core.Path.{ap, _∙_}
 use borrow.Author.Needs.{needs}
 use Rattle.refusal.specs.Table.{wrongTerm, wrongTermOf}

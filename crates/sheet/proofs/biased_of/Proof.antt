@@ -1,3 +1,5 @@
+-- `sheet::biased_of` meets its contract: the law of two's complement (big, Signed) at two bytes.
+-- Assumes nothing.
 use mathlib.Core.Path.{refl}
 use borrow.Author.Needs.{needs}
 use Rattle.big.proofs.Signed.{signed-biased-low, signed-biased-high}

@@ -1,3 +1,5 @@
+-- `sheet::count_entries` meets its contract: a decoded sheet has as many entries as it states.
+-- Assumes nothing.
 use mathlib.Core.Path.{sym}
 use native.Mathlib.Omega.{arith}
 use borrow.Author.Needs.{needs}

@@ -1,3 +1,5 @@
+-- `sheet::count_terms` meets its contract: a decoded sheet has as many terms as it states.
+-- Assumes nothing.
 use mathlib.Core.Path.{sym}
 use native.Mathlib.Omega.{arith}
 use borrow.Author.Needs.{needs}

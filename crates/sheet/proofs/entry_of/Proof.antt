@@ -1,3 +1,5 @@
+-- `sheet::entry_of` meets its contract: its two calls say what the fields decode to.
+-- Assumes nothing.
 use borrow.Author.Needs.{needs}
 use Rattle.sheet.specs.Decode.{decodeEntry}
 use Rattle.sheet.proofs.entry_of.Statement.{statement}

@@ -1,3 +1,5 @@
+-- `sheet::fields_at` meets its contract: five reads, of which `big::read` makes the last.
+-- Assumes nothing.
 use native.Mathlib.Omega.{arith}
 use borrow.Author.Needs.{needs}
 use Rattle.sheet.specs.Decode.{fieldsAt}

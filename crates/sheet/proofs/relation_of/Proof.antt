@@ -1,8 +1,20 @@
-use mathlib.Core.Path.{sym, ap}
+-- `sheet::relation_of` meets its contract, arm by arm.
+-- Assumes nothing.
+use Prim.Native.Nat.{ℕ, zero, suc}
+use mathlib.Core.Path.{_≡_, refl, sym, ap}
+use Rattle.sheet.specs.Sheet.{equal}
 use Rattle.sheet.specs.Decode.{relationOf}
-use Rattle.sheet.proofs.Decode.{relation-other}
 use Rattle.sheet.proofs.relation_of.Statement.{statement}
 use Rattle.sheet.proofs.relation_of.Tie as tie
+
+-- the last arm: a kind that no other arm has
+relation-other : (k : ℕ) → (k ≡ 1 → ⊥) → (k ≡ 2 → ⊥) → (k ≡ 3 → ⊥) → relationOf k ≡ equal
+unfolding relationOf
+relation-other zero p q r = refl
+relation-other (suc zero) p q r = absurd (p refl)
+relation-other (suc (suc zero)) p q r = absurd (q refl)
+relation-other (suc (suc (suc zero))) p q r = absurd (r refl)
+relation-other (suc (suc (suc (suc k)))) p q r = refl
 
 returns : tie.Need-returns
 unfolding relationOf

@@ -1,3 +1,5 @@
+-- `sheet::term_at` meets its contract: the record at the term's place is within a sheet of the stated size.
+-- Assumes nothing.
 use mathlib.Core.Path.{sym, ap, _∙_}
 use native.Mathlib.Omega.{arith}
 use borrow.Author.Needs.{needs}

@@ -1,9 +1,26 @@
-use mathlib.Core.Path.{sym}
+-- `sheet::term_of` meets its contract, arm by arm.
+-- Assumes nothing.
+use Prim.Native.Nat.{ℕ, zero, suc}
+use mathlib.Core.Path.{_≡_, refl, sym}
 use borrow.Author.Needs.{needs}
+use Rattle.sheet.specs.declared.Fields.{Fields}
+use Rattle.sheet.specs.Sheet.{unknown}
 use Rattle.sheet.specs.Decode.{termOf, decodeTerm}
-use Rattle.sheet.proofs.Decode.{term-other}
 use Rattle.sheet.proofs.term_of.Statement.{statement}
 use Rattle.sheet.proofs.term_of.Tie as tie
+
+-- the last arm: a kind that no other arm has
+term-other : (f : Fields) → (f .kind ≡ 1 → ⊥) → (f .kind ≡ 2 → ⊥) → (f .kind ≡ 3 → ⊥) → (f .kind ≡ 4 → ⊥) → decodeTerm f ≡ unknown
+unfolding decodeTerm termOf
+term-other f = go (f .kind)
+  where
+    go : (k : ℕ) → (k ≡ 1 → ⊥) → (k ≡ 2 → ⊥) → (k ≡ 3 → ⊥) → (k ≡ 4 → ⊥) → termOf k f ≡ unknown
+    go zero p q r s = refl
+    go (suc zero) p q r s = absurd (p refl)
+    go (suc (suc zero)) p q r s = absurd (q refl)
+    go (suc (suc (suc zero))) p q r s = absurd (r refl)
+    go (suc (suc (suc (suc zero)))) p q r s = absurd (s refl)
+    go (suc (suc (suc (suc (suc k))))) p q r s = refl
 
 biased-of-requires : tie.Need-biased-of-requires
 biased-of-requires c κs = search needs
