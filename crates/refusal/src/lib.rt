@@ -1,7 +1,7 @@
 // When the panel sends a sheet back: the refusal table as code, equal to the table of specs/ for any bytes and any answer room.
 // It rests on sheet's fields and limits; a sheet that it finds fine is well-formed, which proofs/ shows.
 ghost use mathlib.Core.Path.{_≡_};
-ghost use Prim.Native.Nat.{_+_, _*_, _≤_, _<_};
+ghost use Prim.Native.Nat.{_≤_, _<_};
 ghost use lib.ListN.{length};
 ghost use Rattle.sheet.specs.Decode.{Sized, statedTerms, statedEntries};
 ghost use Rattle.refusal.specs.Table.{sheetRefusal, refusal, wrongLength, wrongShape, wrongTerm, wrongEntry, wrongTermOf, wrongEntryOf, lowest};

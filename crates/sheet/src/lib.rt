@@ -2,7 +2,6 @@
 // It rests on whole and big. Its readers ask for a sheet of the stated size and promise nothing of one that isn't.
 ghost use mathlib.Core.Path.{_≡_};
 ghost use Prim.Native.Nat.{_+_, _≤_, _<_};
-ghost use lib.IntN.{subℕ};
 ghost use lib.ListN.{length};
 ghost use Rattle.big.specs.Big.{signedOf};
 ghost use Rattle.sheet.specs.Decode.{Sized, fieldsAt, sheetOf, decodeTerm, decodeEntry, relationOf};
