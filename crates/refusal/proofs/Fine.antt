@@ -5,15 +5,15 @@ use mathlib.Core.Path.{_≡_, refl}
 use mathlib.Core.Bool.{Bool, true, false, _||_, true≢false}
 use mathlib.Core.List.{List}
 use lib.Dec.{ltb}
-use lib.ListN.{length}
+use lib.ListN.{length, getD}
 use native.Mathlib.Omega.{arith}
 use borrow.Author.Tests.{ltb-false, leb-false, eqb-true, eqb-false, not-false}
 use Rattle.sheet.specs.declared.Fields.{Fields}
 use Rattle.sheet.specs.Limits.{maxTerms, maxEntries}
-use Rattle.sheet.specs.Sheet.{ArgumentsBelow, of-unknown, of-number, of-shift, of-apply, of-apply2, WellFormed}
-use Rattle.sheet.specs.Decode.{statedTerms, statedEntries, entryPlace, fieldsAt, termOf, decodeTerm, decodeEntry, sheetOf, Sized}
+use Rattle.sheet.specs.Sheet.{unknown, ArgumentsBelow, of-unknown, of-number, of-shift, of-apply, of-apply2, WellFormed}
+use Rattle.sheet.specs.Decode.{statedTerms, statedEntries, entryPlace, fieldsAt, termKinds, decodeTerm, decodeEntry, sheetOf, Sized}
 use Rattle.sheet.proofs.Decode.{terms-stated, entries-stated, term-decoded, entry-decoded}
-use Rattle.refusal.specs.Table.{Reply, fine, _then_, given, nonZero, notBelow, wrongLength, wrongVersion, wrongShape, wrongByKind, wrongTerm, wrongEntry, wrongTermOf, wrongEntryOf, lowest, sheetRefusal}
+use Rattle.refusal.specs.Table.{Reply, fine, _then_, given, nonZero, notBelow, wrongLength, wrongVersion, wrongShape, wrongKinds, wrongTerm, wrongEntry, wrongTermOf, wrongEntryOf, lowest, sheetRefusal}
 use Rattle.refusal.proofs.Lowest.{lowest-clear}
 
 neither : (a b : Bool) → a || b ≡ false → (a ≡ false) × (b ≡ false)
@@ -53,10 +53,10 @@ shape-fine b e =
     }
 
 pub term-fine : (i : ℕ) (f : Fields) → wrongTerm i f ≡ false → ArgumentsBelow i (decodeTerm f)
-unfolding wrongTerm wrongByKind decodeTerm termOf
+unfolding wrongTerm decodeTerm
 term-fine i f = go (f .kind)
   where
-    go : (k : ℕ) → wrongByKind k i f ≡ false → ArgumentsBelow i (termOf k f)
+    go : (k : ℕ) → getD (wrongKinds i f) k true ≡ false → ArgumentsBelow i (getD (termKinds f) k unknown)
     go zero e = of-unknown
     go (suc zero) e = of-number
     go (suc (suc zero)) e = of-shift (below (f .a) i (neither (nonZero (f .symbol) || nonZero (f .b)) _ e .1))

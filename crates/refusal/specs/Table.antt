@@ -2,9 +2,9 @@
 -- Assumes nothing.
 use Prim.Native.Nat.{ℕ, zero, suc}
 use mathlib.Core.Bool.{Bool, true, false, not, cond, _||_}
-use mathlib.Core.List.{List}
+use mathlib.Core.List.{List, [], _∷_}
 use lib.Dec.{ltb, leb, eqb}
-use lib.ListN.{length}
+use lib.ListN.{length, getD}
 use Rattle.big.specs.Big.{bigOf}
 use Rattle.sheet.specs.declared.Fields.{Fields}
 use Rattle.sheet.specs.Limits.{maxTerms, maxEntries, sheetLength, roomNeeded}
@@ -54,17 +54,19 @@ wrongShape b =
     let L = statedEntries b in
     eqb T 0 || ltb maxTerms T || ltb maxEntries L || nonZero (byteAt b 5) || not (eqb (length b) (sheetLength T L))
 
--- a kind over 4, a non-zero unused field, or an argument not below the term's own number i
-unfoldable pub wrongByKind : (kind i : ℕ) → Fields → Bool
-wrongByKind zero i f = nonZero (f .symbol) || nonZero (f .a) || nonZero (f .b) || nonZero (f .c)
-wrongByKind (suc zero) i f = nonZero (f .symbol) || nonZero (f .a) || nonZero (f .b)
-wrongByKind (suc (suc zero)) i f = nonZero (f .symbol) || nonZero (f .b) || notBelow (f .a) i
-wrongByKind (suc (suc (suc zero))) i f = nonZero (f .b) || nonZero (f .c) || notBelow (f .a) i
-wrongByKind (suc (suc (suc (suc zero)))) i f = nonZero (f .c) || notBelow (f .a) i || notBelow (f .b) i
-wrongByKind (suc (suc (suc (suc (suc kind))))) i f = true
+-- of each kind, 0 to 4: a non-zero unused field, or an argument not below the term's own number i
+abbrev pub wrongKinds : ℕ → Fields → List Bool
+wrongKinds i f =
+    (nonZero (f .symbol) || nonZero (f .a) || nonZero (f .b) || nonZero (f .c)) ∷
+    (nonZero (f .symbol) || nonZero (f .a) || nonZero (f .b)) ∷
+    (nonZero (f .symbol) || nonZero (f .b) || notBelow (f .a) i) ∷
+    (nonZero (f .b) || nonZero (f .c) || notBelow (f .a) i) ∷
+    (nonZero (f .c) || notBelow (f .a) i || notBelow (f .b) i) ∷
+    []
 
+-- or a kind over 4
 unfoldable pub wrongTerm : ℕ → Fields → Bool
-wrongTerm i f = wrongByKind (f .kind) i f
+wrongTerm i f = getD (wrongKinds i f) (f .kind) true
 
 -- kind over 3, a non-zero second byte, or a or b not below T
 unfoldable pub wrongEntry : ℕ → Fields → Bool

@@ -35,25 +35,16 @@ fieldsAt b p = record { kind = byteAt b p; symbol = byteAt b (p + 1); a = byteAt
 abbrev pub signedC : Fields → ℤ
 signedC f = signedOf 2 (f .c)
 
--- a term by its kind
-unfoldable pub termOf : ℕ → Fields → Term
-termOf zero f = unknown
-termOf (suc zero) f = number (signedC f)
-termOf (suc (suc zero)) f = shift (f .a) (signedC f)
-termOf (suc (suc (suc zero))) f = apply (f .symbol) (f .a)
-termOf (suc (suc (suc (suc zero)))) f = apply2 (f .symbol) (f .a) (f .b)
-termOf (suc (suc (suc (suc (suc kind))))) f = unknown
+-- the terms of kind 0, 1, 2, 3 and 4 that the fields make
+abbrev pub termKinds : Fields → List Term
+termKinds f = unknown ∷ number (signedC f) ∷ shift (f .a) (signedC f) ∷ apply (f .symbol) (f .a) ∷ apply2 (f .symbol) (f .a) (f .b) ∷ []
+
+unfoldable pub decodeTerm : Fields → Term
+decodeTerm f = getD (termKinds f) (f .kind) unknown
 
 -- kind 0 is =, 1 is ≠, 2 is ≤, 3 is <
 unfoldable pub relationOf : ℕ → Relation
-relationOf zero = equal
-relationOf (suc zero) = unequal
-relationOf (suc (suc zero)) = atMost
-relationOf (suc (suc (suc zero))) = less
-relationOf (suc (suc (suc (suc kind)))) = equal
-
-unfoldable pub decodeTerm : Fields → Term
-decodeTerm f = termOf (f .kind) f
+relationOf kind = getD (equal ∷ unequal ∷ atMost ∷ less ∷ []) kind equal
 
 unfoldable pub decodeEntry : Fields → Entry
 decodeEntry f = record { relation = relationOf (f .kind); a = f .a; b = f .b; c = signedC f }

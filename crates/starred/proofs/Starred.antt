@@ -2,14 +2,14 @@
 -- Assumes nothing.
 use mathlib.Core.Path.{refl}
 use Rattle.big.specs.Big.{bigOf, signedOf, bytesOf}
-use Rattle.sheet.specs.Decode.{sheetOf, fieldsAt, termOf, relationOf, decodeTerm, decodeEntry, each}
+use Rattle.sheet.specs.Decode.{sheetOf, fieldsAt, relationOf, decodeTerm, decodeEntry, each}
 use Rattle.meaning.proofs.Judged.{judged}
-use Rattle.refusal.specs.Table.{refusal, sheetRefusal, wrongLength, wrongVersion, wrongShape, wrongTermOf, wrongEntryOf, wrongTerm, wrongByKind, wrongEntry, lowest}
+use Rattle.refusal.specs.Table.{refusal, sheetRefusal, wrongLength, wrongVersion, wrongShape, wrongTermOf, wrongEntryOf, wrongTerm, wrongEntry, lowest}
 use Rattle.answer.specs.Record.{clashesRecord}
 use Rattle.starred.specs.Claim.{Starred}
 
 pub starred : Starred
-unfolding bigOf signedOf bytesOf sheetOf fieldsAt termOf relationOf decodeTerm decodeEntry each refusal sheetRefusal wrongLength wrongVersion wrongShape wrongTermOf wrongEntryOf wrongTerm wrongByKind wrongEntry lowest clashesRecord
+unfolding bigOf signedOf bytesOf sheetOf fieldsAt relationOf decodeTerm decodeEntry each refusal sheetRefusal wrongLength wrongVersion wrongShape wrongTermOf wrongEntryOf wrongTerm wrongEntry lowest clashesRecord
 starred =
     record {
       judged = judged;
