@@ -1,11 +1,10 @@
--- The number of some bytes, the most significant first: its bound, and that it says each of its bytes. Assumes nothing.
+-- The number of some bytes, the most significant first: one byte more, its bound, and that the bytes alone decide it. Assumes nothing.
 use Prim.Native.Nat.{ℕ, zero, suc, _+_, _*_, _^_, _≤_, _<_}
 use mathlib.Core.Path.{_≡_, refl}
-use mathlib.Core.Logic.{⊎-elim}
 use mathlib.Core.List.{List}
 use lib.ListN.{getD}
 use native.Mathlib.Omega.{arith}
-use native.Mathlib.Nat.{eq-or-lt-of-le, pow-suc}
+use native.Mathlib.Nat.{pow-suc}
 use Rattle.big.specs.Big.{Bytes, bigOf}
 
 pub big-more : (b : List ℕ) (at w : ℕ) → bigOf b at (suc w) ≡ bigOf b at w * 256 + getD b (at + w) 0
@@ -23,26 +22,3 @@ unfolding bigOf
 big-same b b' at zero h = refl
 big-same b b' at (suc w) h =
     omega (arith, big-same b b' at w (λ m p q. h m p (omega arith)), h (at + w) (omega arith) (omega arith))
-
--- the same number, the same bytes
-pub big-digits : (b b' : List ℕ) → Bytes b → Bytes b' → (at w : ℕ) → bigOf b at w ≡ bigOf b' at w →
-    (m : ℕ) → at ≤ m → m < at + w → getD b m 0 ≡ getD b' m 0
-unfolding bigOf
-big-digits b b' B B' at zero e m p q = absurd (omega arith)
-big-digits b b' B B' at (suc w) e m p q =
-    ⊎-elim
-    (λ s. rw s (omega (arith, B (at + w), B' (at + w))))
-    (λ l. big-digits b b' B B' at w (omega (arith, B (at + w), B' (at + w))) m p l)
-    (eq-or-lt-of-le (omega arith))
-
--- 0 where each byte is 0, and only there
-pub big-zero : (b : List ℕ) (at w : ℕ) → bigOf b at w ≡ 0 → (m : ℕ) → at ≤ m → m < at + w → getD b m 0 ≡ 0
-unfolding bigOf
-big-zero b at zero e m p q = absurd (omega arith)
-big-zero b at (suc w) e m p q =
-    ⊎-elim (λ s. rw s (omega arith)) (λ l. big-zero b at w (omega arith) m p l) (eq-or-lt-of-le (omega arith))
-
-pub zero-big : (b : List ℕ) (at w : ℕ) → ((m : ℕ) → at ≤ m → m < at + w → getD b m 0 ≡ 0) → bigOf b at w ≡ 0
-unfolding bigOf
-zero-big b at zero h = refl
-zero-big b at (suc w) h = omega (arith, zero-big b at w (λ m p q. h m p (omega arith)), h (at + w) (omega arith) (omega arith))
