@@ -6,7 +6,7 @@ use mathlib.Core.Bool.{Bool, true, false}
 use lib.Dec.{ltb}
 use native.Mathlib.Omega.{arith}
 use borrow.Author.Tests.{ltb-true, ltb-false, lt-ltb, le-ltb}
-use Rattle.gap.specs.Code.{none, half, base, sumOf, sumFinite, Within}
+use Rattle.gap.specs.Code.{none, half, base, sumOf, sumFinite, Addable, Within}
 
 -- a gap is there or is none
 pub there : {A : Type 0} (g : ℕ) → (g < none → A) → (none ≤ g → A) → A
@@ -55,6 +55,10 @@ zero-sum g h = sum-comm base g ∙ sum-zero g h
 -- the sum of two gaps that are there, with no difference to split on
 pub sum-adds : (g h : ℕ) → g < none → h < none → base ≤ g + h → sumOf g h + base ≡ g + h + min (g % 2) (h % 2)
 sum-adds g h p q b = omega (arith, sum-finite g h p q)
+
+-- gaps within widths that leave room can be added
+pub addable : (v w g h : ℕ) → v + w < half → Within v g → Within w h → Addable g h
+addable v w g h f a b = record { low = omega arith; high = λ p q. omega (arith, a .high p, b .high q) }
 
 -- sums stay within the sum of the widths
 pub sum-within : (v w g h : ℕ) → v + w < half → Within v g → Within w h → Within (v + w) (sumOf g h)

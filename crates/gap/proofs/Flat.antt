@@ -13,7 +13,7 @@ use Rattle.gap.specs.Meets.{Meets}
 pub record Flat (D g : ℕ) (x y : ℤ) : Type 0 where
   pub line : plus x + minus y + g % 2 + half * D ≤ plus y + minus x + (g + 1) / 2 * D
 
-parity : (g : ℕ) → (g % 2 ≡ 0) ⊎ (g % 2 ≡ 1)
+pub parity : (g : ℕ) → (g % 2 ≡ 0) ⊎ (g % 2 ≡ 1)
 parity g = go (g % 2) (omega arith) refl
   where
     go : (k : ℕ) → k < 2 → g % 2 ≡ k → (g % 2 ≡ 0) ⊎ (g % 2 ≡ 1)

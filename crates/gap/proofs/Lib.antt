@@ -1,4 +1,5 @@
 pub mod Flat
 pub mod Codes
 pub mod Laws
+pub mod Kind
 pub mod Encode

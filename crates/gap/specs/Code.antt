@@ -27,6 +27,11 @@ sumFinite g h = g + h + min (g % 2) (h % 2) - base
 unfoldable pub sumOf : ℕ → ℕ → ℕ
 sumOf g h = cond (ltb g none) (cond (ltb h none) (sumFinite g h) none) none
 
+-- two gaps whose sum has a code: no difference stops at 0, and a sum of two that are there stays below `none`, which would be no gap
+pub record Addable (g h : ℕ) : Type 0 where
+  pub low : base ≤ g + h
+  pub high : g < none → h < none → g + h < base + none
+
 -- a gap from -w strict to w, or none
 pub record Within (w g : ℕ) : Type 0 where
   pub low : base ≤ g + 2 * w + 1
