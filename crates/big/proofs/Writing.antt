@@ -1,14 +1,15 @@
--- Writing a number from its last byte to its first. Assumes nothing.
+-- Writing a number from its last byte to its first, and that what is left is one only. Assumes nothing.
 use Prim.Native.Nat.{ℕ, suc, _+_, _-_, _/_, _%_, _^_, _≤_, _<_}
-use mathlib.Core.Path.{_≡_, refl, _∙_, subst}
-use mathlib.Core.Logic.{_≢_}
+use mathlib.Core.Path.{_≡_, refl, sym, _∙_, subst}
+use mathlib.Core.Logic.{_≢_, _⊎_, inl, inr}
 use mathlib.Core.List.{List}
 use lib.ListN.{length, getD, set}
-use lib.Seq.{getD-set-same, getD-set-other}
+use lib.Seq.{getD-set-same, getD-set-other, ext-getD}
 use native.Mathlib.Omega.{arith}
 use native.Mathlib.Nat.{pow-suc}
-use Rattle.big.specs.Big.{bigOf, Kept}
-use Rattle.big.proofs.Reading.{big-more}
+use Rattle.whole.proofs.Order.{order}
+use Rattle.big.specs.Big.{Bytes, bigOf, Kept}
+use Rattle.big.proofs.Reading.{big-more, big-digits}
 
 -- the last w - k bytes are written, and what is left, `rest`, belongs into the first k
 pub record Written (old new : List ℕ) (at w v rest k : ℕ) : Type 0 where
@@ -47,3 +48,13 @@ write-end old new at w v rest P = (
   P .whole new (λ m p q. refl) (omega (arith, P .fits)),
   record { before = λ m l. P .before m (omega arith); after = P .after },
 )
+
+-- what `big::write` leaves is one only
+pub write-told : (old a b : List ℕ) (at w : ℕ) → Bytes a → Bytes b → length a ≡ length b → bigOf a at w ≡ bigOf b at w →
+    Kept old a at w → Kept old b at w → a ≡ b
+write-told old a b at w A B l e k m = ext-getD 0 a b l (λ i _. same i (order at i) (order (at + w) i))
+  where
+    same : (i : ℕ) → (at ≤ i) ⊎ (i < at) → (at + w ≤ i) ⊎ (i < at + w) → getD a i 0 ≡ getD b i 0
+    same i (inr p) q = k .before i p ∙ sym (m .before i p)
+    same i (inl p) (inl q) = k .after i q ∙ sym (m .after i q)
+    same i (inl p) (inr q) = big-digits a b A B at w e i p q

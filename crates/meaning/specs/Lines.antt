@@ -36,32 +36,24 @@ line3 =
       entries = compare atMost 0 1 (pos 0) ∷ compare atMost 1 2 (pos 0) ∷ compare unequal 3 4 (pos 0) ∷ compare unequal 3 5 (pos 0) ∷ [];
     }
 
--- 4a. x ≤ y - 1, y ≤ z - 1, z ≤ x + 2
+-- 4. x ≤ y - 1, y ≤ z - 1, and z compared with x + c
 -- terms x, y, z
+abbrev pub line4 : Relation → ℤ → Sheet
+line4 relation c =
+    record {
+      terms = unknown ∷ unknown ∷ unknown ∷ [];
+      entries = compare atMost 0 1 (negsuc 0) ∷ compare atMost 1 2 (negsuc 0) ∷ compare relation 2 0 c ∷ [];
+    }
+
+-- z ≤ x + 2; z < x + 2; z ≤ x + 1
 abbrev pub line4a : Sheet
-line4a =
-    record {
-      terms = unknown ∷ unknown ∷ unknown ∷ [];
-      entries = compare atMost 0 1 (negsuc 0) ∷ compare atMost 1 2 (negsuc 0) ∷ compare atMost 2 0 (pos 2) ∷ [];
-    }
+line4a = line4 atMost (pos 2)
 
--- 4b. x ≤ y - 1, y ≤ z - 1, z < x + 2
--- terms x, y, z
 abbrev pub line4b : Sheet
-line4b =
-    record {
-      terms = unknown ∷ unknown ∷ unknown ∷ [];
-      entries = compare atMost 0 1 (negsuc 0) ∷ compare atMost 1 2 (negsuc 0) ∷ compare less 2 0 (pos 2) ∷ [];
-    }
+line4b = line4 less (pos 2)
 
--- 4c. x ≤ y - 1, y ≤ z - 1, z ≤ x + 1
--- terms x, y, z
 abbrev pub line4c : Sheet
-line4c =
-    record {
-      terms = unknown ∷ unknown ∷ unknown ∷ [];
-      entries = compare atMost 0 1 (negsuc 0) ∷ compare atMost 1 2 (negsuc 0) ∷ compare atMost 2 0 (pos 1) ∷ [];
-    }
+line4c = line4 atMost (pos 1)
 
 -- 5. x < y, y < x + 1
 -- terms x, y
