@@ -1,0 +1,9 @@
+pub mod Kept
+pub mod Ties
+pub mod Order
+pub mod Pigeon
+pub mod Range
+pub mod Relax
+pub mod Short
+pub mod Table
+pub mod Walks
