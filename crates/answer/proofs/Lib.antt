@@ -1,2 +1,3 @@
 pub mod Tells
 pub mod Read
+pub mod Heads

@@ -1,2 +1,18 @@
 // The answer record of document 01: its bytes for holds and for clashes, and what bytes have answer form, in specs/.
 // It rests on big's way of writing numbers and on the sheet's limits; proofs/ shows that a record tells what it was made of.
+// Its code writes the head that both records begin with, and promises it line by line of document 01's table.
+ghost use Prim.Native.Nat.{_≤_, _<_};
+ghost use lib.ListN.{length};
+ghost use Rattle.answer.specs.Head.{Headed};
+
+// Writes the first eight bytes of a record of size bytes: verdict is 0 for holds and 1 for clashes, count is D or k.
+pub fn head(room: &mut [u8], size: usize, verdict: u8, count: u64)
+    requires { ⌜ (8 ≤ length (now room)) × (size < 65536) × (count < 65536) ⌝ }
+    ensures { λ _. ⌜ Headed (now (room .entry)) (now (room .exit)) size verdict count ⌝ }
+{
+    big::write(room, 0, 2, size as u64);
+    big::write(room, 2, 1, 1);
+    big::write(room, 3, 1, verdict as u64);
+    big::write(room, 4, 2, count);
+    big::write(room, 6, 2, 0);
+}

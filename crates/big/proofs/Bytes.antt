@@ -1,6 +1,7 @@
 -- Writing a number and reading it undo one another at any width, and so do two's complement and its reading. Assumes nothing.
 use Prim.Native.Nat.{ℕ, zero, suc, _+_, _*_, _-_, _/_, _%_, _^_, _≤_, _<_}
 use mathlib.Core.Path.{_≡_, refl, _∙_}
+use mathlib.Core.Logic.{_⊎_, inl, inr}
 use mathlib.Core.List.{List, [], _∷_, _++_}
 use lib.IntN.{ℤ, pos, negsuc}
 use lib.ListN.{length, getD, take, drop, length-append, length-drop, List·getD-append}
@@ -67,6 +68,14 @@ unfolding complementOf
 signed-complement w (pos n) a b = signed-low w n (omega arith) ∙ parts-inj _ _ (omega (arith, sub-parts n 0))
 signed-complement w (negsuc n) a b =
     signed-high w (256 ^ w - suc n) (omega arith) ∙ parts-inj _ _ (omega (arith, sub-parts (256 ^ w - suc n) (256 ^ w)))
+
+-- a difference of x and z that wraps around at 256 ^ w, as code without signed numbers makes it
+pub complement-difference : (w r x z : ℕ) (n : ℤ) → plus n + z ≡ x + minus n → r < 256 ^ w → (r + z ≡ x) ⊎ (r + z ≡ x + 256 ^ w) → r ≡ complementOf w n
+unfolding complementOf
+complement-difference w r x z (pos k) e l (inl h) = omega arith
+complement-difference w r x z (pos k) e l (inr h) = absurd (omega arith)
+complement-difference w r x z (negsuc k) e l (inl h) = absurd (omega arith)
+complement-difference w r x z (negsuc k) e l (inr h) = omega arith
 
 -- the bytes of its two's complement tell a whole number
 pub complement-inj : (w : ℕ) (y z : ℤ) → (2 * plus y < 256 ^ w) × (2 * minus y ≤ 256 ^ w) → (2 * plus z < 256 ^ w) × (2 * minus z ≤ 256 ^ w) →

@@ -1,4 +1,4 @@
--- Two's complement at any width: its two halves, moved by half, one to one, and a difference modulo 256 ^ w read as the difference.
+-- Two's complement at any width: its two halves, moved by half, and one to one.
 -- Assumes nothing.
 use Prim.Native.Nat.{ℕ, _+_, _*_, _-_, _^_, _≤_, _<_}
 use mathlib.Core.Path.{_≡_, sym, _∙_, ap}
@@ -44,13 +44,3 @@ signed-inj w u v a b e = go (order (256 ^ w) (2 * u)) (order (256 ^ w) (2 * v))
     go (inl p) (inr q) = omega (arith, meet (256 ^ w) 0 (signed-high w u p) (signed-low w v q))
     go (inr p) (inl q) = omega (arith, meet 0 (256 ^ w) (signed-low w u p) (signed-high w v q))
     go (inr p) (inr q) = omega (arith, meet 0 0 (signed-low w u p) (signed-low w v q))
-
-pub signed-difference : (w r x z : ℕ) → 2 * x < 256 ^ w → 2 * z < 256 ^ w → (r + z ≡ x) ⊎ (r + z ≡ x + 256 ^ w) →
-    signedOf w r ≡ subℕ x z
-signed-difference w r x z a b = go (order (256 ^ w) (2 * r))
-  where
-    go : (256 ^ w ≤ 2 * r) ⊎ (2 * r < 256 ^ w) → (r + z ≡ x) ⊎ (r + z ≡ x + 256 ^ w) → signedOf w r ≡ subℕ x z
-    go (inl p) (inl q) = absurd (omega arith)
-    go (inl p) (inr q) = signed-high w r p ∙ cross r (256 ^ w) x z (omega arith)
-    go (inr p) (inl q) = signed-low w r p ∙ cross r 0 x z (omega arith)
-    go (inr p) (inr q) = absurd (omega arith)

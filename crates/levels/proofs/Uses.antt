@@ -1,7 +1,7 @@
 -- What the promise gives to those who use it: no value is past 2 ^ 40, and values that are apart by c are of points tied at c's code.
 -- Assumes nothing.
 use Prim.Native.Nat.{ℕ, _+_, _*_, _≤_, _<_}
-use mathlib.Core.Path.{_≡_, sym, _∙_, ap}
+use mathlib.Core.Path.{_≡_, sym, _∙_}
 use lib.IntN.{ℤ, pos, _+ℤ_, _*ℤ_}
 use native.Mathlib.Nat.{mul-le-mul}
 use native.Mathlib.Omega.{arith}
@@ -44,10 +44,3 @@ module _ (N R : ℕ) (d : ℕ → ℕ → ℕ) (z : ℕ) (n : ℕ → ℤ) (P : 
   equal-codes e =
       let (p, q) = apart-codes (pos 0) (e ∙ sym by-zero) in
       (p, omega arith)
-
-  -- and back
-  pub codes-equal : d i j ≡ base → d j i ≡ base → n i ≡ n j
-  codes-equal p q =
-      let t : Tied d i j = record { even = omega arith; back = omega arith } in
-      let w : wholeOf (d i j) ≡ pos 0 = parts-inj _ _ (omega (arith, sub-parts (wholeAt (d i j)) half)) in
-      P .exact i j a b t ∙ ap (λ (k : ℤ). n j +ℤ k *ℤ pos (N * N)) w ∙ by-zero

@@ -8,12 +8,12 @@ use native.Mathlib.Omega.{arith}
 use Rattle.sheet.specs.Sheet.{countTerms, countEntries, termAt, entryAt}
 use Rattle.sheet.specs.Decode.{statedTerms, statedEntries, termPlace, entryPlace, fieldsAt, decodeTerm, decodeEntry, each, sheetOf}
 
-length-each : {A : Type 0} (n : ℕ) (f : ℕ → A) → length (each n f) ≡ n
+pub length-each : {A : Type 0} (n : ℕ) (f : ℕ → A) → length (each n f) ≡ n
 unfolding each
 length-each zero f = refl
 length-each (suc n) f = ap suc (length-each n (λ i. f (suc i)))
 
-getD-each : {A : Type 0} (n : ℕ) (f : ℕ → A) (d : A) (i : ℕ) → i < n → getD (each n f) i d ≡ f i
+pub getD-each : {A : Type 0} (n : ℕ) (f : ℕ → A) (d : A) (i : ℕ) → i < n → getD (each n f) i d ≡ f i
 unfolding each
 getD-each zero f d i h = absurd (omega arith)
 getD-each (suc n) f d zero h = refl

@@ -28,6 +28,10 @@ pub struct Symbol(pub u8);
 // c, held as c + 32,768, so that no code needs a sign.
 pub struct Biased(pub u16);
 
+impl Biased {
+    pub const ZERO: Biased = Biased(32768);
+}
+
 pub enum Term {
     Unknown,
     Number(Biased),

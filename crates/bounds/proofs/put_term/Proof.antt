@@ -1,0 +1,95 @@
+-- `bounds::put_term` meets its contract, kind by kind.
+-- Assumes nothing.
+use Prim.Native.Nat.{ℕ, _<_}
+use mathlib.Core.Path.{sym, _∙_}
+use mathlib.Core.Bool.{true}
+use mathlib.Core.List.{List, [], _∷_}
+use mathlib.Core.Logic.{⊎-elim}
+use lib.IntN.{ℤ, +ℤ-idl}
+use native.Mathlib.Omega.{arith}
+use borrow.Author.Needs.{needs}
+use denote.Enum.Declared.{tagOf}
+use types.Run.{OneOf}
+use Rattle.closure.specs.Table.{Table}
+use Rattle.table.specs.Cells.{cell}
+use Rattle.sheet.specs.declared.Term.{Term as Code-Term}
+use Rattle.sheet.specs.declared.Term.the-variants.{Unknown, Number, Shift, Apply, Apply2}
+use Rattle.sheet.specs.Sheet.{number, shift, ArgumentsBelow, of-shift}
+use Rattle.sheet.specs.Says.{termSays}
+use Rattle.sheet.proofs.Term as code
+use Rattle.values.specs.Settled.{TermHeld}
+use Rattle.bounds.specs.Step.{Stepped}
+use Rattle.bounds.specs.True.{TieTrue, TermTrue}
+use Rattle.bounds.proofs.Steps.{changed, stayed}
+use Rattle.bounds.proofs.put_term.Statement.{statement}
+use Rattle.bounds.proofs.put_term.Tie as tie
+
+shift-below : {i a : ℕ} {c : ℤ} → ArgumentsBelow i (shift a c) → a < i
+shift-below (of-shift h) = h
+
+-- a number is tied to the zero level
+number-tied : {z i D : ℕ} {c : ℤ} {v : ℕ → ℤ} → TermTrue z i (number c) D v → TieTrue i z c D v
+number-tied q = record { tied = rw (q .zero) (q .defined ∙ sym (+ℤ-idl _)) }
+
+-- the last arm: the kinds of term that have no bounds
+not-tied : (k : ℕ) → 0 < k → k < 3 → OneOf (0 ∷ 3 ∷ 4 ∷ []) k → ⊥
+not-tied k l u = ⊎-elim (λ e. omega arith) (⊎-elim (λ e. omega arith) (λ e. omega arith))
+
+free : (t : Code-Term) {n z i : ℕ} {d : List ℕ} → OneOf (0 ∷ 3 ∷ 4 ∷ []) (tagOf code.the-type t) → Table n (cell d)
+    → Stepped n (TermTrue z i (termSays t)) (λ k. TermHeld k z i (termSays t)) d d true
+free Unknown k T = stayed T tt
+free (Number c) k T = absurd (not-tied 1 (omega arith) (omega arith) k)
+free (Shift a c) k T = absurd (not-tied 2 (omega arith) (omega arith) k)
+free (Apply s a) k T = stayed T tt
+free (Apply2 s a b) k T = stayed T tt
+
+enum-known-t : tie.Need-enum-known-t
+enum-known-t c = search needs
+
+add-put-tie : tie.Need-add-put-tie
+add-put-tie c = search needs
+
+put-tie-requires : tie.Need-put-tie-requires
+put-tie-requires c κs = search needs
+
+enum-known-t-2 : tie.Need-enum-known-t-2
+enum-known-t-2 c = search needs
+
+add-put-tie-2 : tie.Need-add-put-tie-2
+add-put-tie-2 c = search needs
+
+cast-put-tie : tie.Need-cast-put-tie
+cast-put-tie c = search needs
+
+put-tie-requires-2 : tie.Need-put-tie-requires-2
+put-tie-requires-2 c κs =
+    let known = c .before .before .before in
+    let start = known .before .before .before in
+    let below = shift-below (rw (known .t2 .given .1) at (start .pre .0 .3)) in
+    (omega (arith, below), start .pre .1)
+
+same-length : tie.Need-same-length
+same-length c = search needs
+
+returns : tie.Need-returns
+returns c =
+    let called = c .before .before in
+    rw (called .before .before .before .t .given .1) (changed (λ D v q. number-tied q) (λ d h. h) (called .put-tie .ensures))
+
+same-length-2 : tie.Need-same-length-2
+same-length-2 c = search needs
+
+returns-2 : tie.Need-returns-2
+returns-2 c =
+    let called = c .before .before in
+    rw (called .before .before .before .before .t2 .given .1)
+    (changed (λ D v q. record { tied = q .defined }) (λ d h. h) (called .put-tie2 .ensures))
+
+returns-3 : tie.Need-returns-3
+returns-3 c = free (c .before .before .args .t) (c .match .keys3) (c .before .before .pre .1)
+
+pub put-term-spec : {M : Type 1} → statement M
+put-term-spec =
+    tie.close
+    (tie.spec enum-known-t add-put-tie put-tie-requires enum-known-t-2 add-put-tie-2 cast-put-tie put-tie-requires-2 same-length
+    returns same-length-2 returns-2 returns-3)

@@ -1,0 +1,3 @@
+pub mod Tests
+pub mod Inputs
+pub mod Entries

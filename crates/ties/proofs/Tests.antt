@@ -1,0 +1,37 @@
+-- What both answers of a test show, from what they show of its parts.
+-- Assumes nothing.
+use Prim.Native.Nat.{ℕ, _+_, _*_, _-_, _<_}
+use mathlib.Core.Path.{_≡_, sym}
+use mathlib.Core.Bool.{Bool, false}
+use lib.Dec.{eqb}
+use lib.IntN.{subℕ}
+use native.Mathlib.Omega.{arith}
+use borrow.Author.Tests.{eqb-true, eqb-false}
+use Rattle.whole.specs.Whole.{plus, minus}
+use Rattle.whole.proofs.Parts.{sub-parts}
+use Rattle.gap.specs.Code.{base}
+use Rattle.closure.specs.Closed.{Closed, TiedAt, tieOf}
+use Rattle.closure.proofs.Ties.{differ, tie-at}
+use Rattle.ties.specs.Ties.{Decides}
+
+pub refuted : {A : Type 0} → (A → ⊥) → Decides A false
+refuted n = record { yes = λ e. absurd (differ (sym e)); no = λ e. n }
+
+-- a test of what is the same
+pub told : {A B : Type 0} {r : Bool} → (A → B) → (B → A) → Decides A r → Decides B r
+told to from D = record { yes = λ e. to (D .yes e); no = λ e b. D .no e (from b) }
+
+-- one part is there, and the other is tested
+pub rest : {A B : Type 0} {r : Bool} → A → Decides B r → Decides (A × B) r
+rest a = told (λ b. (a, b)) (λ p. p .1)
+
+-- the table's gap is compared with c's
+pub tied-told : {n R : ℕ} {d : ℕ → ℕ → ℕ} {a b : ℕ} (c t w : ℕ) → Closed n R d → (a < n) × (b < n) → c < 65536
+    → t ≡ tieOf d a b → w ≡ base + 2 * c - 2 * 32768 → Decides (TiedAt d a b (subℕ c 32768)) (eqb t w)
+tied-told {n} {R} {d} {a} {b} c t w C i c< e f =
+    let p : plus (subℕ c 32768) + 32768 ≡ c + minus (subℕ c 32768) = sub-parts c 32768 in
+    let q = tie-at n R d C a b (i .0) (i .1) (subℕ c 32768) (omega arith) in
+    record {
+      yes = λ h. q .1 (omega (arith, eqb-true t w h));
+      no = λ h k. eqb-false t w h (omega (arith, q .0 k));
+    }

@@ -1,0 +1,59 @@
+-- `ties::apart` meets its contract: no entry before the counter is in the set and broken.
+-- Assumes nothing.
+use Prim.Native.Nat.{ℕ, _-_, _≤_, _<_}
+use mathlib.Core.Path.{_≡_}
+use mathlib.Core.Bool.{true, false}
+use lib.ListN.{getD}
+use native.Mathlib.Omega.{arith}
+use borrow.Author.Count.{below-more}
+use borrow.Author.Needs.{needs}
+use Rattle.table.specs.Cells.{cell}
+use Rattle.sheet.specs.Decode.{sheetOf}
+use Rattle.sheet.specs.Sheet.{countEntries, entryAt}
+use Rattle.ties.specs.Ties.{Broken}
+use Rattle.ties.proofs.Entries.{found, none}
+use Rattle.ties.proofs.apart.Statement.{statement}
+use Rattle.ties.proofs.apart.Tie as tie
+
+abbrev Inv-loop : tie.InvT-loop
+Inv-loop sheet set d l e₀ e =
+    (e ≤ l) × (l ≡ countEntries (sheetOf sheet)) × ((k : ℕ) → k < e → (getD set k false ≡ true) × Broken (cell d) (entryAt (sheetOf sheet) k) → ⊥)
+
+abbrev μ-loop : tie.MeasureT-loop
+μ-loop sheet set d l e₀ e = l - e
+
+count-entries-requires : tie.Need-count-entries-requires Inv-loop μ-loop
+count-entries-requires c κs = search needs
+
+loop-holds : tie.Need-loop-holds Inv-loop μ-loop
+loop-holds c = (omega arith, c .count-entries .ensures .0, λ k k<. absurd (omega arith))
+
+cast-t8 : tie.Need-cast-t8 Inv-loop μ-loop
+cast-t8 c = omega arith
+
+broken-at-requires : tie.Need-broken-at-requires Inv-loop μ-loop
+broken-at-requires c κs =
+    let pre = c .before .before .before .before .before .before .pre in
+    (pre .0, ((omega arith, omega arith, pre .1 .0 .1), pre .1 .1))
+
+returns : tie.Need-returns Inv-loop μ-loop
+returns c = found (omega arith) (c .before .broken-at .ensures .yes (c .if1 .taken))
+
+add-e : tie.Need-add-e Inv-loop μ-loop
+add-e c = omega arith
+
+loop-less : tie.Need-loop-less Inv-loop μ-loop
+loop-less c = omega arith
+
+loop-again : tie.Need-loop-again Inv-loop μ-loop
+loop-again c =
+    let loop = c .before .before .before .loop in
+    (omega arith, loop .inv .1, below-more _ _ (loop .inv .2) (c .before .broken-at .ensures .no (c .if1 .left)))
+
+returns-2 : tie.Need-returns-2 Inv-loop μ-loop
+returns-2 c = let loop = c .before .loop in none (λ e e<. loop .inv .2 e (omega arith))
+
+pub apart-spec : {M : Type 1} → statement M
+apart-spec =
+    tie.close
+    (tie.spec Inv-loop μ-loop count-entries-requires loop-holds cast-t8 broken-at-requires returns add-e loop-less loop-again returns-2)

@@ -1,0 +1,45 @@
+-- `ties::broken_at` meets its contract: an entry out of the set is not looked at.
+-- Assumes nothing.
+use mathlib.Core.Path.{sym, _∙_}
+use native.Mathlib.Omega.{arith}
+use borrow.Author.Needs.{needs}
+use borrow.Author.Tests.{not-true, not-false}
+use Rattle.closure.proofs.Ties.{differ}
+use Rattle.ties.proofs.Tests.{refuted, rest}
+use Rattle.ties.proofs.Entries.{ends}
+use Rattle.ties.proofs.broken_at.Statement.{statement}
+use Rattle.ties.proofs.broken_at.Tie as tie
+
+cast-if1 : tie.Need-cast-if1
+cast-if1 c = search needs
+
+shared-slice-read-if1 : tie.Need-shared-slice-read-if1
+shared-slice-read-if1 c = search needs
+
+returns : tie.Need-returns
+returns c = refuted (λ p. differ (sym (p .0) ∙ not-true _ (c .if1 .taken)))
+
+count-terms-requires : tie.Need-count-terms-requires
+count-terms-requires c κs = search needs
+
+add-is-broken : tie.Need-add-is-broken
+add-is-broken c = search needs
+
+entry-at-requires : tie.Need-entry-at-requires
+entry-at-requires c κs = search needs
+
+is-broken-requires : tie.Need-is-broken-requires
+is-broken-requires c κs =
+    let start = c .before .before .before .before .before .before .before .before in
+    let counted = c .before .count-terms .ensures .0 in (
+      (start .pre .1 .0 .2, omega arith, rw counted (start .pre .1 .1)),
+      ends (c .entry-at .result) (start .pre .0 .1) (start .pre .1 .0 .0) (c .entry-at .ensures) counted,
+    )
+
+returns-2 : tie.Need-returns-2
+returns-2 c = rest (not-false _ (c .before .before .before .if1 .left)) (rw (c .before .entry-at .ensures) at (c .is-broken .ensures))
+
+pub broken-at-spec : {M : Type 1} → statement M
+broken-at-spec =
+    tie.close
+    (tie.spec cast-if1 shared-slice-read-if1 returns count-terms-requires add-is-broken entry-at-requires is-broken-requires returns-2)

@@ -1,0 +1,23 @@
+-- `ties::same_one` meets its contract: it asks whether the other term is alike where that is of the same kind.
+-- Assumes nothing.
+use borrow.Author.Needs.{needs}
+use Rattle.ties.proofs.Inputs.{argument, one-told, other-one}
+use Rattle.ties.proofs.same_one.Statement.{statement}
+use Rattle.ties.proofs.same_one.Tie as tie
+
+enum-known-u : tie.Need-enum-known-u
+enum-known-u c = search needs
+
+alike-requires : tie.Need-alike-requires
+alike-requires c κs =
+    let pre = c .before .before .before .before .pre in
+    (pre .0, (pre .1 .0, argument (rw (c .before .u .given .1) at (pre .1 .1))))
+
+returns : tie.Need-returns
+returns c = rw (c .before .before .u .given .1) (one-told (c .alike .ensures))
+
+returns-2 : tie.Need-returns-2
+returns-2 c = other-one (c .before .before .args .u) (c .match .keys2)
+
+pub same-one-spec : {M : Type 1} → statement M
+same-one-spec = tie.close (tie.spec enum-known-u alike-requires returns returns-2)

@@ -1,0 +1,35 @@
+-- What the tests of a table answer.
+-- Assumes nothing.
+use Prim.Native.Nat.{ℕ, _<_}
+use mathlib.Core.Path.{_≡_}
+use mathlib.Core.Bool.{Bool, true, false}
+use lib.IntN.{pos}
+use Rattle.closure.specs.Closed.{TiedAt}
+use Rattle.order.specs.First.{Set}
+use Rattle.sheet.specs.Sheet.{Term, unequal, Entry, Sheet, countEntries, entryAt}
+use Rattle.meaning.specs.Meaning.{SameInput}
+use Rattle.values.specs.Settled.{Apart}
+
+-- a test's answer
+pub record Decides (A : Type 0) (answer : Bool) : Type 0 where
+  pub yes : answer ≡ true → A
+  pub no : answer ≡ false → A → ⊥
+
+-- the table says that the two terms have the same input
+abbrev pub Joined : (ℕ → ℕ → ℕ) → Term → Term → Type 0
+Joined d t u = SameInput (λ a b. TiedAt d a b (pos 0)) t u
+
+-- a ≠ entry on terms tied at exactly its c
+pub record Broken (d : ℕ → ℕ → ℕ) (e : Entry) : Type 0 where
+  pub unequal· : e .relation ≡ unequal
+  pub tied : TiedAt d (e .a) (e .b) (e .c)
+
+pub record BrokenSome (s : Sheet) (S : Set) (d : ℕ → ℕ → ℕ) : Type 0 where
+  pub e : ℕ
+  pub below : e < countEntries s
+  pub marked : S e ≡ true
+  pub broken : Broken d (entryAt s e)
+
+pub record Checked (s : Sheet) (S : Set) (d : ℕ → ℕ → ℕ) (answer : Bool) : Type 0 where
+  pub apart : answer ≡ true → Apart s S d
+  pub broken : answer ≡ false → BrokenSome s S d

@@ -1,0 +1,126 @@
+// The values of a sheet's terms, read off a closed table: one formula (levels, specs/Level.antt) and no search.
+// It rests on closed tables (closure, table) and on levels' theorem, and writes D and one n per term as the answer record.
+// It promises that these meet the sheet on every set of entries for which the table is settled (specs/Settled.antt, Written.antt).
+ghost use mathlib.Core.Path.{_≡_};
+ghost use Prim.Native.Nat.{ℕ, _+_, _*_, _^_, _≤_, _<_, min};
+ghost use lib.ListN.{length};
+ghost use Rattle.gap.specs.Code.{half, none};
+ghost use Rattle.closure.specs.Closed.{Closed};
+ghost use Rattle.closure.specs.Table.{reach};
+ghost use Rattle.levels.specs.Level.{wholeAt, sumTo, leastOf, termOf, lowestOf, levelOf};
+ghost use Rattle.table.specs.Cells.{stride, cells, cell};
+ghost use Rattle.sheet.specs.Decode.{Sized, sheetOf};
+ghost use Rattle.sheet.specs.Sheet.{WellFormed};
+ghost use Rattle.values.specs.Settled.{points};
+ghost use Rattle.values.specs.Written.{recordLength, Written};
+use gap::Gap;
+
+// Writes D and one n per term as the answer record, and answers its length. D is n * n, where n counts the terms and the zero level.
+pub fn write(sheet: &[u8], d: &[u32], room: &mut [u8]) -> usize
+    requires { ⌜ Sized (now sheet) × WellFormed (sheetOf (now sheet)) ⌝ }
+    requires { ⌜ (length (now d) ≡ cells) × (recordLength (sheetOf (now sheet)) ≤ length (now room)) ⌝ }
+    requires { ⌜ Closed (points (sheetOf (now sheet))) (reach (points (sheetOf (now sheet)))) (cell (now d)) ⌝ }
+    ensures { λ r. ⌜ (r ≡ recordLength (sheetOf (now (sheet .entry)))) × Written (sheetOf (now (sheet .entry))) (cell (now (d .entry))) (now (room .entry)) (now (room .exit)) ⌝ }
+{
+    let terms = sheet::count_terms(sheet);
+    let n = terms + 1;
+    let size = 8 + 8 * terms;
+    answer::head(room, size, 0, (n * n) as u64);
+    let zero = level(d, terms, n);
+    let mut i = 0;
+    while i < terms {
+        let v = std::num::wrapping_sub_u64(level(d, i, n), zero);
+        big::write(room, 8 + 8 * i, 8, v);
+        i += 1;
+    }
+    size
+}
+
+// The level of point i of n, in parts of n * n. The lowest tied point sets untied points apart that the sums would leave equal.
+fn level(d: &[u32], i: usize, n: usize) -> u64
+    requires { ⌜ (length (now d) ≡ cells) × (i < n) × (n ≤ stride) ⌝ }
+    requires { ⌜ Closed n (reach n) (cell (now d)) ⌝ }
+    ensures { λ r. ⌜ (r ≡ levelOf n (reach n) (cell (now (d .entry))) i) × (r < 2 ^ 48) ⌝ }
+{
+    // Where there is no gap: 2 R + 1 above the row's least, where R is n * 32,768.
+    let other = (n as u64) * 65536 + 1 + least(d, i, n);
+    (n as u64) * total(d, i, n, other) + (lowest(d, i) as u64)
+}
+
+// The lowest point that i is tied with. A gap back of more than 0 leaves each tie below NONE.
+fn lowest(d: &[u32], i: usize) -> usize
+    requires { ⌜ (length (now d) ≡ cells) × (i < stride) × ((k : ℕ) → k < i → 0 < cell (now d) k i) ⌝ }
+    ensures { λ r. ⌜ (r ≡ lowestOf (cell (now (d .entry))) i) × (r ≤ i) ⌝ }
+{
+    let mut k = 0;
+    while k < i {
+        if table::tied(d, i, k).0 < Gap::NONE.0 {
+            return k;
+        }
+        k += 1;
+    }
+    i
+}
+
+// The sum of row i, with another number where there is no gap.
+fn total(d: &[u32], i: usize, n: usize, other: u64) -> u64
+    requires { ⌜ (length (now d) ≡ cells) × (i < stride) × (n ≤ stride) × (other ≤ none) ⌝ }
+    ensures { λ r. ⌜ (r ≡ sumTo n (λ s. termOf other (cell (now (d .entry)) i s))) × (r ≤ n * none) ⌝ }
+{
+    let mut sum: u64 = 0;
+    let mut s = 0;
+    while s < n {
+        sum += term(other, gap_at(d, i, s));
+        s += 1;
+    }
+    sum
+}
+
+// The least whole number of row i, or 0.
+fn least(d: &[u32], i: usize, n: usize) -> u64
+    requires { ⌜ (length (now d) ≡ cells) × (i < stride) × (n ≤ stride) ⌝ }
+    ensures { λ r. ⌜ (r ≡ leastOf n (cell (now (d .entry)) i)) × (r ≤ half) ⌝ }
+{
+    let mut m = whole(Gap::ZERO.0);
+    let mut s = 0;
+    while s < n {
+        m = lesser(m, whole(gap_at(d, i, s)));
+        s += 1;
+    }
+    m
+}
+
+// The whole number of a gap that is there, or another number.
+fn term(other: u64, g: u32) -> u64
+    requires { ⌜ other ≤ none ⌝ }
+    ensures { λ r. ⌜ (r ≡ termOf other g) × (r ≤ none) ⌝ }
+{
+    if g < Gap::NONE.0 { whole(g) } else { other }
+}
+
+// The whole number of a code, from the bias `half` up: a difference of two loses the bias.
+fn whole(g: u32) -> u64
+    ensures { λ r. ⌜ r ≡ wholeAt g ⌝ }
+{
+    (wide(g) + 1) / 2
+}
+
+// The gap from i to j.
+fn gap_at(d: &[u32], i: usize, j: usize) -> u32
+    requires { ⌜ (length (now d) ≡ cells) × (i < stride) × (j < stride) ⌝ }
+    ensures { λ r. ⌜ r ≡ cell (now (d .entry)) i j ⌝ }
+{
+    d[i * table::STRIDE + j]
+}
+
+fn lesser(x: u64, y: u64) -> u64
+    ensures { λ r. ⌜ r ≡ min x y ⌝ }
+{
+    if x < y { x } else { y }
+}
+
+fn wide(x: u32) -> u64
+    ensures { λ r. ⌜ r ≡ x ⌝ }
+{
+    x as u64
+}

@@ -1,0 +1,142 @@
+-- The parts of a verdict together: a table with all terms and entries in, saturated and with no ≠ entry broken, is settled and so the set
+-- holds; a refusal on the way, or a broken ≠ entry, leaves no levels that meet the sheet, so the set clashes.
+-- Assumes nothing.
+use Prim.Native.Nat.{ℕ, _+_, _<_}
+use mathlib.Core.Path.{_≡_, _∙_}
+use mathlib.Core.Bool.{Bool, true, false}
+use mathlib.Core.List.{List}
+use lib.IntN.{ℤ}
+use native.Mathlib.Decide.{ℕ-discrete}
+use native.Mathlib.Omega.{arith}
+use Rattle.gap.specs.Meets.{Meets}
+use Rattle.gap.proofs.Laws.{meets-zero, meets-none}
+use Rattle.table.specs.Cells.{cell, Kept, Started}
+use Rattle.order.specs.First.{Set}
+use Rattle.sheet.specs.Sheet.{Sheet, countTerms, countEntries, entryAt, WellFormed}
+use Rattle.values.specs.Settled.{points, Saturated, Settled}
+use Rattle.values.proofs.Held.{tied-met}
+use Rattle.values.proofs.Meet.{settled-meets}
+use Rattle.bounds.specs.Step.{Met, Stepped}
+use Rattle.bounds.specs.True.{TermsTrue, EntriesTrue, TermsHeld, EntriesHeld}
+use Rattle.bounds.proofs.Steps.{Leaves, changed, followed, term-tighter, entry-tighter}
+use Rattle.ties.specs.Ties.{Checked}
+use Rattle.verdict.specs.declared.Verdict.the-variants.{Holds, Clashes}
+use Rattle.verdict.specs.Judged.{Judged}
+use Rattle.verdict.specs.Passing.{FunctionsTrue}
+use Rattle.verdict.proofs.Ground.{Model, no-model}
+
+-- every level meets a table of no bounds
+started-met : (n D : ℕ) (v : ℕ → ℤ) (old d : List ℕ) → Started n old d → Met n D (cell d) v
+started-met n D v old d F = record { met = λ i j i< j<. go i j i< j< (ℕ-discrete i j) }
+  where
+    go : (i j : ℕ) → i < n → j < n → Dec (i ≡ j) → Meets D (cell d i j) (v i) (v j)
+    go i j i< j< (yes e) = rw e (rw (F .same j j<) (meets-zero D (v j)))
+    go i j i< j< (no ne) = rw (F .apart i j i< j< ne) (meets-none D (v i) (v j))
+
+module _ (s : Sheet) (S : Set) (W : WellFormed s) where
+  -- the terms are in, and then the entries
+  pub record Both (d : ℕ → ℕ → ℕ) : Type 0 where
+    pub terms : TermsHeld s (countTerms s) d
+    pub entries : EntriesHeld s S (countEntries s) d
+
+  pub record All (d : ℕ → ℕ → ℕ) : Type 0 where
+    pub both : Both d
+    pub saturated : Saturated s d
+
+  -- from a started table on, a step towards the verdict
+  abbrev pub Toward : Leaves → List ℕ → List ℕ → Bool → Type 0
+  Toward P = Stepped (points s) (Model s S) P
+
+  pub with-terms : {old new : List ℕ} {r : Bool} → Stepped (points s) (TermsTrue s) (TermsHeld s (countTerms s)) old new r
+      → Toward (TermsHeld s (countTerms s)) old new r
+  with-terms = changed (λ D v m. record { zero = m .zero; defined = m .meet .defined }) (λ d p. p)
+
+  pub with-entries : {old mid new : List ℕ} {q r : Bool} → q ≡ true → Toward (TermsHeld s (countTerms s)) old mid q
+      → Stepped (points s) (EntriesTrue s S) (EntriesHeld s S (countEntries s)) mid new r → Toward Both old new r
+  with-entries e A =
+      followed (λ D v m. m) (λ D v m. record { entries = m .meet .entries })
+      (λ d e t p q.
+      record {
+        terms = record { terms = λ i i<. term-tighter t (omega arith) (omega arith) (W .arguments i i<) (p .terms i i<) };
+        entries = q;
+      })
+      (A .kept) (A .went e)
+
+  pub with-functions : {old mid new : List ℕ} {q r : Bool} → q ≡ true → Toward Both old mid q
+      → Stepped (points s) (FunctionsTrue s) (Saturated s) mid new r → Toward All old new r
+  with-functions e A =
+      followed (λ D v m. m) (λ D v m. record { functions = m .meet .functions })
+      (λ d e t p q.
+      record {
+        both =
+            record {
+              terms = record { terms = λ i i<. term-tighter t (omega arith) (omega arith) (W .arguments i i<) (p .terms .terms i i<) };
+              entries =
+                  record {
+                    entries = λ k k< h.
+                        entry-tighter t (entryAt s k) (omega (arith, W .left k k<)) (omega (arith, W .right k k<)) (p .entries .entries k k< h);
+                  };
+            };
+        saturated = q;
+      })
+      (A .kept) (A .went e)
+
+  module _ {m : ℕ} {old d : List ℕ} (m-is : m ≡ countTerms s) (F : Started (m + 1) old d) where
+    -- every level meets the table that was started, which has m terms as the code counts them
+    fresh-met : (D : ℕ) (v : ℕ → ℤ) → Met (points s) D (cell d) v
+    fresh-met D v = rw (← m-is) (started-met (m + 1) D v old d F)
+
+    kept : {P : Leaves} {new : List ℕ} {r : Bool} → Toward P d new r → Kept (points s) old new
+    kept A =
+        let K : Kept (points s) old d = rw m-is at (F .kept) in
+        record { right = λ i j p q. A .kept .right i j p q ∙ K .right i j p q; below = λ k p. A .kept .below k p ∙ K .below k p }
+
+    -- a refusal on the way
+    pub refused : {P : Leaves} {new : List ℕ} {r : Bool} → Toward P d new r → r ≡ false → Judged s S (cell new) Clashes × Kept (points s) old new
+    refused A f = (
+      record {
+        holds = λ e. absurd (omega arith);
+        settled = λ e. absurd (omega arith);
+        clashes = λ e. no-model s S W (λ D v M. A .refuted f D v (M .meet .positive) (fresh-met D v) M);
+      },
+      kept A,
+    )
+
+    module _ {new : List ℕ} {r : Bool} (A : Toward All d new r) (f : r ≡ true) {sound : Bool} (B : Checked s S (cell new) sound) where
+      -- a ≠ entry's terms that the table ties at its c are apart by c in whatever meets the table
+      none : sound ≡ false → (D : ℕ) (v : ℕ → ℤ) → Model s S D v → ⊥
+      none e D v M =
+          let b = B .broken e in
+          let T : Met (points s) D (cell new) v = A .went f .met D v (M .meet .positive) (fresh-met D v) M in
+          let l : entryAt s (b .e) .a < points s = omega (arith, W .left (b .e) (b .below)) in
+          let k : entryAt s (b .e) .b < points s = omega (arith, W .right (b .e) (b .below)) in
+          (rw (b .broken .unequal·) at (M .meet .entries (b .e) (b .below) (b .marked)))
+          (tied-met _ (b .broken .tied) (T .met _ _ l k) (T .met _ _ k l))
+
+      pub broken : sound ≡ false → Judged s S (cell new) Clashes × Kept (points s) old new
+      broken e = (
+        record { holds = λ h. absurd (omega arith); settled = λ h. absurd (omega arith); clashes = λ h. no-model s S W (none e) },
+        kept A,
+      )
+
+      all : sound ≡ true → Settled s S (cell new)
+      all e =
+          let G = A .went f in
+          record {
+            closed = G .table .closed;
+            terms = G .there .both .terms .terms;
+            entries = G .there .both .entries .entries;
+            functions = G .there .saturated;
+            apart = B .apart e;
+          }
+
+      -- nothing broken
+      pub settled : sound ≡ true → Judged s S (cell new) Holds × Kept (points s) old new
+      settled e = (
+        record {
+          holds = λ h. record { D = _; n = _; meet = settled-meets s S (cell new) W (all e) };
+          settled = λ h. all e;
+          clashes = λ h. absurd (omega arith);
+        },
+        kept A,
+      )

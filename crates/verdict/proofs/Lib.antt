@@ -1,0 +1,7 @@
+pub mod Total
+pub mod Passes
+pub mod Pairs
+pub mod Settles
+pub mod Ground
+pub mod Final
+pub mod Exactly

@@ -1,0 +1,100 @@
+-- `verdict::on` meets its contract: the parts together (proofs/Final.antt).
+-- Assumes nothing.
+use native.Mathlib.Omega.{arith}
+use borrow.Author.Needs.{needs}
+use borrow.Author.Tests.{not-true, not-false}
+use Rattle.verdict.proofs.Final.{with-terms, with-entries, with-functions, refused, broken, settled}
+use Rattle.verdict.proofs.on.Statement.{statement}
+use Rattle.verdict.proofs.on.Tie as tie
+
+count-terms-requires : tie.Need-count-terms-requires
+count-terms-requires c κs = search needs
+
+add-start : tie.Need-add-start
+add-start c = search needs
+
+start-requires : tie.Need-start-requires
+start-requires c κs = (omega arith, omega (arith, c .before .before .before .before .before .pre .0 .1 .terms))
+
+put-terms-requires : tie.Need-put-terms-requires
+put-terms-requires c κs =
+    let start = c .before .before .before .before .before .before .before .before .before in
+    (start .pre .0, (omega arith, rw (c .before .before .before .before .count-terms .ensures .0) at (c .before .before .before .start .ensures .table)))
+
+same-length : tie.Need-same-length
+same-length c = omega arith
+
+returns : tie.Need-returns
+returns c =
+    let start = c .before .before .before .before .before .before .before .before .before .before .before .before .before in
+    let A = with-terms _ _ (start .pre .0 .1) (c .before .before .before .put-terms .ensures) in
+    refused _ _ (start .pre .0 .1) (c .before .before .before .before .before .before .before .before .count-terms .ensures .0) (c .before .before .before .before .before .before .before .start .ensures) A (not-true _ (c .if1 .taken))
+
+put-entries-requires : tie.Need-put-entries-requires
+put-entries-requires c κs =
+    let start = c .before .before .before .before .before .before .before .before .before .before .before .before .before .before in
+    (start .pre .0, (start .pre .1 .0, (omega arith, c .before .before .before .before .put-terms .ensures .went (not-false _ (c .before .if1 .left)) .table)))
+
+same-length-2 : tie.Need-same-length-2
+same-length-2 c = omega arith
+
+returns-2 : tie.Need-returns-2
+returns-2 c =
+    let start = c .before .before .before .before .before .before .before .before .before .before .before .before .before .before .before .before .before .before in
+    let wf = start .pre .0 .1 in
+    let A = with-terms _ _ wf (c .before .before .before .before .before .before .before .before .put-terms .ensures) in
+    let B = with-entries _ _ wf (not-false _ (c .before .before .before .before .before .if1 .left)) A (c .before .before .before .put-entries .ensures) in
+    refused _ _ wf (c .before .before .before .before .before .before .before .before .before .before .before .before .before .count-terms .ensures .0) (c .before .before .before .before .before .before .before .before .before .before .before .before .start .ensures) B (not-true _ (c .if2 .taken))
+
+settle-requires : tie.Need-settle-requires
+settle-requires c κs =
+    let start = c .before .before .before .before .before .before .before .before .before .before .before .before .before .before .before .before .before .before .before in
+    (start .pre .0, (omega arith, c .before .before .before .before .put-entries .ensures .went (not-false _ (c .before .if2 .left)) .table))
+
+same-length-3 : tie.Need-same-length-3
+same-length-3 c = omega arith
+
+returns-3 : tie.Need-returns-3
+returns-3 c =
+    let start = c .before .before .before .before .before .before .before .before .before .before .before .before .before .before .before .before .before .before .before .before .before .before .before in
+    let wf = start .pre .0 .1 in
+    let A = with-terms _ _ wf (c .before .before .before .before .before .before .before .before .before .before .before .before .before .put-terms .ensures) in
+    let B = with-entries _ _ wf (not-false _ (c .before .before .before .before .before .before .before .before .before .before .if1 .left)) A (c .before .before .before .before .before .before .before .before .put-entries .ensures) in
+    let C = with-functions _ _ wf (not-false _ (c .before .before .before .before .before .if2 .left)) B (c .before .before .before .settle .ensures) in
+    refused _ _ wf (c .before .before .before .before .before .before .before .before .before .before .before .before .before .before .before .before .before .before .count-terms .ensures .0) (c .before .before .before .before .before .before .before .before .before .before .before .before .before .before .before .before .before .start .ensures) C (not-true _ (c .if3 .taken))
+
+apart-requires : tie.Need-apart-requires
+apart-requires c κs =
+    let start = c .before .before .before .before .before .before .before .before .before .before .before .before .before .before .before .before .before .before .before .before .before .before .before .before in
+    (start .pre .0, ((start .pre .1 .0, omega arith), c .before .before .before .before .settle .ensures .went (not-false _ (c .before .if3 .left)) .table .closed))
+
+same-length-4 : tie.Need-same-length-4
+same-length-4 c = omega arith
+
+returns-4 : tie.Need-returns-4
+returns-4 c =
+    let start = c .before .before .before .before .before .before .before .before .before .before .before .before .before .before .before .before .before .before .before .before .before .before .before .before .before .before in
+    let wf = start .pre .0 .1 in
+    let A = with-terms _ _ wf (c .before .before .before .before .before .before .before .before .before .before .before .before .before .before .before .before .put-terms .ensures) in
+    let B = with-entries _ _ wf (not-false _ (c .before .before .before .before .before .before .before .before .before .before .before .before .before .if1 .left)) A (c .before .before .before .before .before .before .before .before .before .before .before .put-entries .ensures) in
+    let C = with-functions _ _ wf (not-false _ (c .before .before .before .before .before .before .before .before .if2 .left)) B (c .before .before .before .before .before .before .settle .ensures) in
+    broken _ _ wf (c .before .before .before .before .before .before .before .before .before .before .before .before .before .before .before .before .before .before .before .before .before .count-terms .ensures .0) (c .before .before .before .before .before .before .before .before .before .before .before .before .before .before .before .before .before .before .before .before .start .ensures) C (not-false _ (c .before .before .before .if3 .left)) (c .before .apart .ensures) (not-true _ (c .if4 .taken))
+
+same-length-5 : tie.Need-same-length-5
+same-length-5 c = omega arith
+
+returns-5 : tie.Need-returns-5
+returns-5 c =
+    let start = c .before .before .before .before .before .before .before .before .before .before .before .before .before .before .before .before .before .before .before .before .before .before .before .before .before .before in
+    let wf = start .pre .0 .1 in
+    let A = with-terms _ _ wf (c .before .before .before .before .before .before .before .before .before .before .before .before .before .before .before .before .put-terms .ensures) in
+    let B = with-entries _ _ wf (not-false _ (c .before .before .before .before .before .before .before .before .before .before .before .before .before .if1 .left)) A (c .before .before .before .before .before .before .before .before .before .before .before .put-entries .ensures) in
+    let C = with-functions _ _ wf (not-false _ (c .before .before .before .before .before .before .before .before .if2 .left)) B (c .before .before .before .before .before .before .settle .ensures) in
+    settled _ _ wf (c .before .before .before .before .before .before .before .before .before .before .before .before .before .before .before .before .before .before .before .before .before .count-terms .ensures .0) (c .before .before .before .before .before .before .before .before .before .before .before .before .before .before .before .before .before .before .before .before .start .ensures) C (not-false _ (c .before .before .before .if3 .left)) (c .before .apart .ensures) (not-false _ (c .if4 .left))
+
+pub on-spec : {M : Type 1} → statement M
+on-spec =
+    tie.close
+    (tie.spec count-terms-requires add-start start-requires put-terms-requires same-length returns put-entries-requires
+    same-length-2 returns-2 settle-requires same-length-3 returns-3 apart-requires same-length-4 returns-4 same-length-5
+    returns-5)

@@ -1,0 +1,57 @@
+-- Passing equalities on: what a pass over pairs of terms leaves, and what its clash shows.
+-- Assumes nothing.
+use Prim.Native.Nat.{ℕ, _<_}
+use mathlib.Core.Path.{_≡_}
+use mathlib.Core.Bool.{Bool, true, false}
+use mathlib.Core.List.{List}
+use lib.IntN.{ℤ, pos}
+use Rattle.closure.specs.Closed.{TiedAt}
+use Rattle.levels.specs.Level.{sumTo}
+use Rattle.table.specs.Cells.{cell, Kept}
+use Rattle.sheet.specs.Sheet.{Sheet, countTerms, termAt}
+use Rattle.meaning.specs.Meaning.{SameInput}
+use Rattle.values.specs.Settled.{points}
+use Rattle.bounds.specs.Step.{Went, Refuted}
+use Rattle.ties.specs.Ties.{Joined}
+use Rattle.verdict.specs.declared.Passed.{Passed}
+use Rattle.verdict.specs.declared.Passed.the-variants.{Clash, New, Still}
+
+-- what a sheet asks of its functions
+pub record FunctionsTrue (s : Sheet) (D : ℕ) (v : ℕ → ℤ) : Type 0 where
+  pub functions : (i j : ℕ) → i < countTerms s → j < countTerms s → SameInput (λ a b. v a ≡ v b) (termAt s i) (termAt s j) → v i ≡ v j
+
+-- where terms i and j have the same input, they are tied at 0
+pub record PairTied (s : Sheet) (i j : ℕ) (d : ℕ → ℕ → ℕ) : Type 0 where
+  pub tied : Joined d (termAt s i) (termAt s j) → TiedAt d i j (pos 0)
+
+-- and so for each of the first m
+pub record EachTied (P : ℕ → (ℕ → ℕ → ℕ) → Type 0) (m : ℕ) (d : ℕ → ℕ → ℕ) : Type 0 where
+  pub each : (k : ℕ) → k < m → P k d
+
+-- the sum of all cells: it falls with each tie that is new
+unfoldable pub total : ℕ → (ℕ → ℕ → ℕ) → ℕ
+total n d = sumTo n (λ i. sumTo n (λ j. d i j))
+
+-- a pass found a clash, or tied terms that weren't, or found nothing to do: then P already
+pub record Passing (s : Sheet) (P : (ℕ → ℕ → ℕ) → Type 0) (old new : List ℕ) (answer : Passed) : Type 0 where
+  pub clash : answer ≡ Clash → Refuted (points s) (FunctionsTrue s) old
+  pub went : answer ≡ New → Went (points s) (FunctionsTrue s) (λ d. Unit) old new
+  pub falls : answer ≡ New → total (points s) (cell new) < total (points s) (cell old)
+  pub same : answer ≡ Still → new ≡ old
+  pub still : answer ≡ Still → P (cell old)
+  pub kept : Kept (points s) old new
+
+-- what a loop keeps of its passes, and what it answers in the end
+abbrev pub isClash : Passed → Bool
+isClash Clash = true
+isClash New = false
+isClash Still = false
+
+abbrev pub isNew : Passed → Bool
+isNew Clash = false
+isNew New = true
+isNew Still = false
+
+abbrev pub passedOf : Bool → Passed
+passedOf true = New
+passedOf false = Still
