@@ -1,7 +1,7 @@
 -- One pair of terms: the three answers of a pass over it, and that a table in which no pair is left to tie is saturated.
 -- Assumes nothing.
 use Prim.Native.Nat.{ℕ, _+_, _≤_, _<_}
-use mathlib.Core.Path.{_≡_, refl, sym, _∙_}
+use mathlib.Core.Path.{_≡_, sym, _∙_}
 use mathlib.Core.Bool.{Bool, true, false}
 use mathlib.Core.Logic.{⊎-elim}
 use mathlib.Core.List.{List}
@@ -20,29 +20,12 @@ use Rattle.values.specs.Settled.{points, Saturated}
 use Rattle.values.proofs.Held.{tied-met}
 use Rattle.bounds.specs.Step.{Met, Stepped}
 use Rattle.bounds.specs.True.{TieTrue}
-use Rattle.bounds.proofs.Steps.{kept-all}
 use Rattle.ties.specs.Ties.{Decides, Joined}
 use Rattle.verdict.specs.declared.Passed.the-variants.{Clash, New, Still}
-use Rattle.verdict.specs.Passing.{FunctionsTrue, PairTied, EachTied, Passing}
-use Rattle.verdict.proofs.Passes.{apart, clashed}
+use Rattle.verdict.specs.Passing.{FunctionsTrue, PairTied, EachTied, Passing, clash, tied, still}
 use Rattle.verdict.proofs.Total.{falls}
 
 module _ (s : Sheet) (W : WellFormed s) (i j : ℕ) (i< : i < countTerms s) (j< : j < i) (old : List ℕ) where
-  -- nothing to do
-  still : PairTied s i j (cell old) → Passing s (PairTied s i j) old old Still
-  still p =
-      record {
-        clash = λ e. absurd (apart Still Clash (λ h. omega arith) e);
-        went = λ e. absurd (apart Still New (λ h. omega arith) e);
-        falls = λ e. absurd (apart Still New (λ h. omega arith) e);
-        same = λ e. refl;
-        still = λ e. p;
-        kept = kept-all _ _;
-      }
-
-  pub tied-already : TiedAt (cell old) i j (pos 0) → Passing s (PairTied s i j) old old Still
-  tied-already t = still (record { tied = λ q. t })
-
   -- t and u are what the code read of the two terms
   module _ {t u : Term} {same : Bool} (t-is : t ≡ termAt s i) (u-is : u ≡ termAt s j) (D : Decides (Joined (cell old) t u) same) where
     pub not-joined : same ≡ false → Passing s (PairTied s i j) old old Still
@@ -70,19 +53,13 @@ module _ (s : Sheet) (W : WellFormed s) (i j : ℕ) (i< : i < countTerms s) (j< 
         put = rw m-is at S
 
         pub refused : r ≡ false → Passing s (PairTied s i j) old new Clash
-        refused f = clashed s (λ D v D> M F. put .refuted f D v D> M (asked D v M F)) (put .kept)
+        refused f = clash (λ D v D> M F. put .refuted f D v D> M (asked D v M F)) (put .kept)
 
         pub tied-now : r ≡ true → (TiedAt (cell old) i j (pos 0) → ⊥) → Passing s (PairTied s i j) old new New
         tied-now f not =
             let G = put .went f in
-            record {
-              clash = λ e. absurd (apart New Clash (λ h. omega arith) e);
-              went = λ e. record { table = G .table; tighter = G .tighter; met = λ D v D> M F. G .met D v D> M (asked D v M F); there = tt };
-              falls = λ e. falls (points s) (cell old) (cell new) (G .tighter) i j (omega arith) (omega arith) not (G .there);
-              same = λ e. absurd (apart New Still (λ h. omega arith) e);
-              still = λ e. absurd (apart New Still (λ h. omega arith) e);
-              kept = put .kept;
-            }
+            tied (record { table = G .table; tighter = G .tighter; met = λ D v D> M F. G .met D v D> M (asked D v M F); there = tt }) (put .kept)
+            (falls (points s) (cell old) (cell new) (G .tighter) i j (omega arith) (omega arith) not (G .there))
 
 -- arguments below i are below what i is
 pub arguments : {i n : ℕ} {t : Term} → i ≤ n → ArgumentsBelow i t → ArgumentsBelow n t

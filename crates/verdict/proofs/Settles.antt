@@ -1,7 +1,7 @@
 -- Passes until nothing is new: what the loop keeps, that it ends, and what it answers.
 -- Assumes nothing.
 use Prim.Native.Nat.{ℕ, _+_, _<_}
-use mathlib.Core.Path.{_≡_, refl, sym, _∙_}
+use mathlib.Core.Path.{_≡_, refl, sym}
 use mathlib.Core.Bool.{Bool, true, false, cond}
 use mathlib.Core.List.{List}
 use native.Mathlib.Omega.{arith}
@@ -11,11 +11,10 @@ use Rattle.table.specs.Cells.{cell}
 use Rattle.sheet.specs.Sheet.{Sheet, countTerms}
 use Rattle.values.specs.Settled.{points, Saturated}
 use Rattle.bounds.specs.Step.{Stepped}
-use Rattle.bounds.proofs.Steps.{stayed}
+use Rattle.bounds.proofs.Steps.{arrived, stayed}
 use Rattle.verdict.specs.declared.Passed.{Passed}
-use Rattle.verdict.specs.declared.Passed.the-variants.{Clash, New, Still}
-use Rattle.verdict.specs.Passing.{FunctionsTrue, PairTied, EachTied, total, Passing, isNew}
-use Rattle.verdict.proofs.Passes.{Passes, on, passes}
+use Rattle.verdict.specs.Passing.{FunctionsTrue, PairTied, EachTied, total, Passing, clash, tied, still, isClash, isNew}
+use Rattle.verdict.proofs.Passes.{kept-on, Passes, on}
 use Rattle.verdict.proofs.Pairs.{saturated}
 
 module _ (s : Sheet) where
@@ -23,47 +22,41 @@ module _ (s : Sheet) where
   abbrev Pass : List ℕ → List ℕ → Passed → Type 0
   Pass = Passing s (EachTied (λ i. EachTied (PairTied s i) i) (countTerms s))
 
-  pub record Settling (old d : List ℕ) (going : Bool) : Type 0 where
-    pub steps : Passes s old d
-    pub saturated· : going ≡ false → Saturated s (cell d)
+  -- after some passes: going on, or the last one found nothing new
+  pub data Settling (old d : List ℕ) : Bool → Type 0 where
+    going : Passes s old d → Settling old d true
+    over : Passes s old d → Saturated s (cell d) → Settling old d false
 
   pub begun : {old : List ℕ} → Table (points s) (cell old) → Settling old old true
-  begun T = record { steps = stayed T tt; saturated· = λ e. absurd (differ e) }
+  begun T = going (stayed T tt)
 
-  module _ {old d new : List ℕ} {going : Bool} (S : Settling old d going) where
-    pub goes-on : (r : Passed) → Pass d new r → (r ≡ Clash → ⊥) → Settling old new (isNew r)
-    goes-on Clash G no· = absurd (no· refl)
-    goes-on New G no· = record { steps = on s (S .steps) (passes s (S .steps .went refl .table) G no·); saturated· = λ e. absurd (differ e) }
-    goes-on Still G no· =
-        record {
-          steps = on s (S .steps) (passes s (S .steps .went refl .table) G no·);
-          saturated· = λ e. rw (G .same refl) (saturated s (cell d) (S .steps .went refl .table .closed) (G .still refl));
-        }
+  pub passed : {old d : List ℕ} {b : Bool} → Settling old d b → Passes s old d
+  passed (going p) = p
+  passed (over p h) = p
 
-    -- the measure of the loop
-    pub lower : (r : Passed) → Pass d new r → (r ≡ Clash → ⊥) → going ≡ true
-        → cond (isNew r) (total (points s) (cell new) + 1) 0 < cond going (total (points s) (cell d) + 1) 0
-    lower Clash G no· e = absurd (no· refl)
-    lower New G no· e = rw e (omega (arith, G .falls refl))
-    lower Still G no· e = rw e (omega arith)
+  pub goes-on : {old d new : List ℕ} {b : Bool} {r : Passed} → Settling old d b → Pass d new r → isClash r ≡ false → Settling old new (isNew r)
+  goes-on S (clash R K) e = absurd (differ e)
+  goes-on S (tied w k f) e = going (on s (passed S) (arrived k w))
+  goes-on {d = d} S (still q) e = over (passed S) (saturated s (cell d) (passed S .went refl .table .closed) q)
 
-    pub clashes : (r : Passed) → Pass d new r → r ≡ Clash → Stepped (points s) (FunctionsTrue s) (Saturated s) old new false
-    clashes r G e =
-        record {
-          went = λ f. absurd (differ (sym f));
-          refuted = λ f D v D> M q. G .clash e D v D> (S .steps .went refl .met D v D> M q) q;
-          kept =
-              record {
-                right = λ i j p q. G .kept .right i j p q ∙ S .steps .kept .right i j p q;
-                below = λ k p. G .kept .below k p ∙ S .steps .kept .below k p;
-              };
-        }
+  -- the measure of the loop
+  pub lower : {d new : List ℕ} {b : Bool} {r : Passed} → Pass d new r → isClash r ≡ false → b ≡ true
+      → cond (isNew r) (total (points s) (cell new) + 1) 0 < cond b (total (points s) (cell d) + 1) 0
+  lower (clash R K) e f = absurd (differ e)
+  lower (tied w k l) e f = rw f (omega arith)
+  lower (still q) e f = rw f (omega arith)
 
-  pub ended : {old d : List ℕ} {going : Bool} → Settling old d going → going ≡ false → Stepped (points s) (FunctionsTrue s) (Saturated s) old d true
-  ended S e =
-      let W = S .steps .went refl in
+  pub clashes : {old d new : List ℕ} {b : Bool} {r : Passed} → Settling old d b → Pass d new r → isClash r ≡ true
+      → Stepped (points s) (FunctionsTrue s) (Saturated s) old new false
+  clashes S (clash R K) e =
       record {
-        went = λ f. record { table = W .table; tighter = W .tighter; met = W .met; there = S .saturated· e };
-        refuted = λ f. absurd (differ f);
-        kept = S .steps .kept;
+        went = λ f. absurd (differ (sym f));
+        refuted = λ f D v D> M q. R D v D> (passed S .went refl .met D v D> M q) q;
+        kept = kept-on (passed S .kept) K;
       }
+  clashes S (tied w k l) e = absurd (differ (sym e))
+  clashes S (still q) e = absurd (differ (sym e))
+
+  pub ended : {old d : List ℕ} {b : Bool} → Settling old d b → b ≡ false → Stepped (points s) (FunctionsTrue s) (Saturated s) old d true
+  ended (going p) e = absurd (differ e)
+  ended (over p h) e = arrived (p .kept) (record { table = p .went refl .table; tighter = p .went refl .tighter; met = p .went refl .met; there = h })

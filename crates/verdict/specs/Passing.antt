@@ -33,13 +33,11 @@ unfoldable pub total : ℕ → (ℕ → ℕ → ℕ) → ℕ
 total n d = sumTo n (λ i. sumTo n (λ j. d i j))
 
 -- a pass found a clash, or tied terms that weren't, or found nothing to do: then P already
-pub record Passing (s : Sheet) (P : (ℕ → ℕ → ℕ) → Type 0) (old new : List ℕ) (answer : Passed) : Type 0 where
-  pub clash : answer ≡ Clash → Refuted (points s) (FunctionsTrue s) old
-  pub went : answer ≡ New → Went (points s) (FunctionsTrue s) (λ d. Unit) old new
-  pub falls : answer ≡ New → total (points s) (cell new) < total (points s) (cell old)
-  pub same : answer ≡ Still → new ≡ old
-  pub still : answer ≡ Still → P (cell old)
-  pub kept : Kept (points s) old new
+pub data Passing (s : Sheet) (P : (ℕ → ℕ → ℕ) → Type 0) (old : List ℕ) : List ℕ → Passed → Type 0 where
+  clash : {new : List ℕ} → Refuted (points s) (FunctionsTrue s) old → Kept (points s) old new → Passing s P old new Clash
+  tied : {new : List ℕ} → Went (points s) (FunctionsTrue s) (λ d. Unit) old new → Kept (points s) old new
+      → total (points s) (cell new) < total (points s) (cell old) → Passing s P old new New
+  still : P (cell old) → Passing s P old old Still
 
 -- what a loop keeps of its passes, and what it answers in the end
 abbrev pub isClash : Passed → Bool

@@ -5,24 +5,6 @@ use Rattle.answer.proofs.Heads.{headed}
 use Rattle.answer.proofs.head.Statement.{statement}
 use Rattle.answer.proofs.head.Tie as tie
 
-write-requires : tie.Need-write-requires
-write-requires c κs = search needs
-
-write-requires-2 : tie.Need-write-requires-2
-write-requires-2 c κs = search needs
-
-write-requires-3 : tie.Need-write-requires-3
-write-requires-3 c κs = search needs
-
-write-requires-4 : tie.Need-write-requires-4
-write-requires-4 c κs = search needs
-
-write-requires-5 : tie.Need-write-requires-5
-write-requires-5 c κs = search needs
-
-same-length : tie.Need-same-length
-same-length c = search needs
-
 returns : tie.Need-returns
 returns c =
     let c5 = c .before .before in
@@ -35,11 +17,5 @@ returns c =
 pub head-spec : {M : Type 1} → statement M
 head-spec =
     tie.close
-    (tie.spec
-    write-requires
-    write-requires-2
-    write-requires-3
-    write-requires-4
-    write-requires-5
-    same-length
-    returns)
+    (tie.spec (λ c κs. search needs) (λ c κs. search needs) (λ c κs. search needs) (λ c κs. search needs) (λ c κs. search needs)
+    (λ c. search needs) returns)

@@ -26,9 +26,6 @@ Inv-loop sheet set d₀ l e₀ d e =
 abbrev μ-loop : tie.MeasureT-loop
 μ-loop sheet set d₀ l e₀ d e = l - e
 
-count-entries-requires : tie.Need-count-entries-requires Inv-loop μ-loop
-count-entries-requires c κs = search needs
-
 loop-holds : tie.Need-loop-holds Inv-loop μ-loop
 loop-holds c = (
   omega arith,
@@ -38,17 +35,11 @@ loop-holds c = (
   went-none (c .before .before .before .before .pre .1 .1 .1) (record { entries = λ e l m. absurd (omega arith) }),
 )
 
-cast-t9 : tie.Need-cast-t9 Inv-loop μ-loop
-cast-t9 c = search needs
-
 put-marked-requires : tie.Need-put-marked-requires Inv-loop μ-loop
 put-marked-requires c κs =
     let loop = c .before .before .loop in
     let start = c .before .before .before .before .before .before .before in
     (start .pre .0, ((omega arith, omega arith), (omega arith, loop .inv .4 .table)))
-
-same-length : tie.Need-same-length Inv-loop μ-loop
-same-length c = search needs
 
 returns : tie.Need-returns Inv-loop μ-loop
 returns c =
@@ -58,12 +49,6 @@ returns c =
     refused (not-true _ (c .if1 .taken))
     (entries-more _ _ _ (start .pre .0 .1) (omega arith) (loop .inv .3) (loop .inv .4) (called .put-marked .ensures))
 
-add-e : tie.Need-add-e Inv-loop μ-loop
-add-e c = search needs
-
-loop-less : tie.Need-loop-less Inv-loop μ-loop
-loop-less c = search needs
-
 loop-again : tie.Need-loop-again Inv-loop μ-loop
 loop-again c =
     let called = c .before .before .before in
@@ -71,9 +56,6 @@ loop-again c =
     let start = called .before .before .before .before .before .before .before .before in
     let S = entries-more _ _ _ (start .pre .0 .1) (omega arith) (loop .inv .3) (loop .inv .4) (called .put-marked .ensures) in
     (omega arith, loop .inv .1, omega arith, S .kept, S .went (not-false _ (c .if1 .left)))
-
-same-length-2 : tie.Need-same-length-2 Inv-loop μ-loop
-same-length-2 c = search needs
 
 returns-2 : tie.Need-returns-2 Inv-loop μ-loop
 returns-2 c =
@@ -84,5 +66,5 @@ returns-2 c =
 pub put-entries-spec : {M : Type 1} → statement M
 put-entries-spec =
     tie.close
-    (tie.spec Inv-loop μ-loop count-entries-requires loop-holds cast-t9 put-marked-requires same-length returns add-e loop-less
-    loop-again same-length-2 returns-2)
+    (tie.spec Inv-loop μ-loop (λ c κs. search needs) loop-holds (λ c. search needs) put-marked-requires (λ c. search needs) returns
+    (λ c. search needs) (λ c. search needs) loop-again (λ c. search needs) returns-2)

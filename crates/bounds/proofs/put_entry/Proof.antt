@@ -7,41 +7,8 @@ use Rattle.bounds.proofs.Steps.{changed, stayed}
 use Rattle.bounds.proofs.put_entry.Statement.{statement}
 use Rattle.bounds.proofs.put_entry.Tie as tie
 
-cast-a : tie.Need-cast-a
-cast-a c = search needs
-
-cast-b : tie.Need-cast-b
-cast-b c = search needs
-
 enum-told : tie.Need-enum-told
 enum-told c = search needs
-
-put-tie-requires : tie.Need-put-tie-requires
-put-tie-requires c κs = search needs
-
-enum-told-2 : tie.Need-enum-told-2
-enum-told-2 c = search needs
-
-enum-told-3 : tie.Need-enum-told-3
-enum-told-3 c = search needs
-
-to-requires : tie.Need-to-requires
-to-requires c κs = search needs
-
-insert-requires : tie.Need-insert-requires
-insert-requires c κs = search needs
-
-enum-told-4 : tie.Need-enum-told-4
-enum-told-4 c = search needs
-
-under-requires : tie.Need-under-requires
-under-requires c κs = search needs
-
-insert-requires-2 : tie.Need-insert-requires-2
-insert-requires-2 c κs = search needs
-
-same-length : tie.Need-same-length
-same-length c = search needs
 
 returns : tie.Need-returns
 returns c =
@@ -51,9 +18,6 @@ returns c =
 returns-2 : tie.Need-returns-2
 returns-2 c = rw (c .enum-told2 .given .1) (stayed (c .before .before .before .before .before .pre .1) tt)
 
-same-length-2 : tie.Need-same-length-2
-same-length-2 c = search needs
-
 returns-3 : tie.Need-returns-3
 returns-3 c =
     let called = c .before .before in
@@ -61,9 +25,6 @@ returns-3 c =
     let start = told .before .before .before .before .before in
     rw (told .enum-told3 .given .1)
     (at-most-put _ (omega arith) (omega arith) (start .pre .1) (called .before .to .ensures) (called .insert .ensures))
-
-same-length-3 : tie.Need-same-length-3
-same-length-3 c = search needs
 
 returns-4 : tie.Need-returns-4
 returns-4 c =
@@ -76,5 +37,6 @@ returns-4 c =
 pub put-entry-spec : {M : Type 1} → statement M
 put-entry-spec =
     tie.close
-    (tie.spec cast-a cast-b enum-told put-tie-requires enum-told-2 enum-told-3 to-requires insert-requires enum-told-4 under-requires
-    insert-requires-2 same-length returns returns-2 same-length-2 returns-3 same-length-3 returns-4)
+    (tie.spec (λ c. search needs) (λ c. search needs) enum-told (λ c κs. search needs) (λ c. search needs) (λ c. search needs)
+    (λ c κs. search needs) (λ c κs. search needs) (λ c. search needs) (λ c κs. search needs) (λ c κs. search needs)
+    (λ c. search needs) returns returns-2 (λ c. search needs) returns-3 (λ c. search needs) returns-4)

@@ -9,23 +9,8 @@ use Rattle.bounds.proofs.Parts.{entry-below, unmarked, marked}
 use Rattle.bounds.proofs.put_marked.Statement.{statement}
 use Rattle.bounds.proofs.put_marked.Tie as tie
 
-cast-if1 : tie.Need-cast-if1
-cast-if1 c = search needs
-
-shared-slice-read-if1 : tie.Need-shared-slice-read-if1
-shared-slice-read-if1 c = search needs
-
 returns : tie.Need-returns
 returns c = unmarked (not-true _ (c .if1 .taken)) (c .before .before .before .before .before .before .pre .1 .1 .1)
-
-count-terms-requires : tie.Need-count-terms-requires
-count-terms-requires c κs = search needs
-
-add-put-entry : tie.Need-add-put-entry
-add-put-entry c = search needs
-
-entry-at-requires : tie.Need-entry-at-requires
-entry-at-requires c κs = search needs
 
 put-entry-requires : tie.Need-put-entry-requires
 put-entry-requires c κs =
@@ -33,9 +18,6 @@ put-entry-requires c κs =
     let start = c .before .before .before .before .before .before .before .before .before in
     let below = entry-below (start .pre .0 .1) (start .pre .1 .0 .0) (c .entry-at .ensures) in
     (omega (arith, below), rw (terms .0) (start .pre .1 .1 .1))
-
-same-length : tie.Need-same-length
-same-length c = search needs
 
 returns-2 : tie.Need-returns-2
 returns-2 c =
@@ -48,5 +30,5 @@ returns-2 c =
 pub put-marked-spec : {M : Type 1} → statement M
 put-marked-spec =
     tie.close
-    (tie.spec cast-if1 shared-slice-read-if1 returns count-terms-requires add-put-entry entry-at-requires put-entry-requires same-length
-    returns-2)
+    (tie.spec (λ c. search needs) (λ c. search needs) returns (λ c κs. search needs) (λ c. search needs) (λ c κs. search needs)
+    put-entry-requires (λ c. search needs) returns-2)

@@ -43,24 +43,6 @@ free (Shift a c) k T = absurd (not-tied 2 (omega arith) (omega arith) k)
 free (Apply s a) k T = stayed T tt
 free (Apply2 s a b) k T = stayed T tt
 
-enum-known-t : tie.Need-enum-known-t
-enum-known-t c = search needs
-
-add-put-tie : tie.Need-add-put-tie
-add-put-tie c = search needs
-
-put-tie-requires : tie.Need-put-tie-requires
-put-tie-requires c κs = search needs
-
-enum-known-t-2 : tie.Need-enum-known-t-2
-enum-known-t-2 c = search needs
-
-add-put-tie-2 : tie.Need-add-put-tie-2
-add-put-tie-2 c = search needs
-
-cast-put-tie : tie.Need-cast-put-tie
-cast-put-tie c = search needs
-
 put-tie-requires-2 : tie.Need-put-tie-requires-2
 put-tie-requires-2 c κs =
     let known = c .before .before .before in
@@ -68,16 +50,10 @@ put-tie-requires-2 c κs =
     let below = shift-below (rw (known .t2 .given .1) at (start .pre .0 .3)) in
     (omega (arith, below), start .pre .1)
 
-same-length : tie.Need-same-length
-same-length c = search needs
-
 returns : tie.Need-returns
 returns c =
     let called = c .before .before in
     rw (called .before .before .before .t .given .1) (changed (λ D v q. number-tied q) (λ d h. h) (called .put-tie .ensures))
-
-same-length-2 : tie.Need-same-length-2
-same-length-2 c = search needs
 
 returns-2 : tie.Need-returns-2
 returns-2 c =
@@ -91,5 +67,5 @@ returns-3 c = free (c .before .before .args .t) (c .match .keys3) (c .before .be
 pub put-term-spec : {M : Type 1} → statement M
 put-term-spec =
     tie.close
-    (tie.spec enum-known-t add-put-tie put-tie-requires enum-known-t-2 add-put-tie-2 cast-put-tie put-tie-requires-2 same-length
-    returns same-length-2 returns-2 returns-3)
+    (tie.spec (λ c. search needs) (λ c. search needs) (λ c κs. search needs) (λ c. search needs) (λ c. search needs)
+    (λ c. search needs) put-tie-requires-2 (λ c. search needs) returns (λ c. search needs) returns-2 returns-3)

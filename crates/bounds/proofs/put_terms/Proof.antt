@@ -25,9 +25,6 @@ Inv-loop sheet d₀ t i₀ d i =
 abbrev μ-loop : tie.MeasureT-loop
 μ-loop sheet d₀ t i₀ d i = t - i
 
-count-terms-requires : tie.Need-count-terms-requires Inv-loop μ-loop
-count-terms-requires c κs = search needs
-
 loop-holds : tie.Need-loop-holds Inv-loop μ-loop
 loop-holds c = (
   omega arith,
@@ -36,12 +33,6 @@ loop-holds c = (
   kept-all _ _,
   went-none (c .before .before .before .pre .1 .1) (record { terms = λ i l. absurd (omega arith) }),
 )
-
-cast-t9 : tie.Need-cast-t9 Inv-loop μ-loop
-cast-t9 c = search needs
-
-term-at-requires : tie.Need-term-at-requires Inv-loop μ-loop
-term-at-requires c κs = search needs
 
 put-term-requires : tie.Need-put-term-requires Inv-loop μ-loop
 put-term-requires c κs =
@@ -52,9 +43,6 @@ put-term-requires c κs =
       rw (loop .inv .1) (loop .inv .4 .table),
     )
 
-same-length : tie.Need-same-length Inv-loop μ-loop
-same-length c = search needs
-
 returns : tie.Need-returns Inv-loop μ-loop
 returns c =
     let called = c .before .before .before in
@@ -63,12 +51,6 @@ returns c =
     refused (not-true _ (c .if1 .taken))
     (terms-more _ _ (start .pre .0 .1) (omega arith) (loop .inv .1) (called .before .term-at .ensures)
     (loop .inv .3) (loop .inv .4) (called .put-term .ensures))
-
-add-i : tie.Need-add-i Inv-loop μ-loop
-add-i c = search needs
-
-loop-less : tie.Need-loop-less Inv-loop μ-loop
-loop-less c = search needs
 
 loop-again : tie.Need-loop-again Inv-loop μ-loop
 loop-again c =
@@ -81,9 +63,6 @@ loop-again c =
     in
     (omega arith, loop .inv .1, omega arith, S .kept, S .went (not-false _ (c .if1 .left)))
 
-same-length-2 : tie.Need-same-length-2 Inv-loop μ-loop
-same-length-2 c = search needs
-
 returns-2 : tie.Need-returns-2 Inv-loop μ-loop
 returns-2 c =
     let loop = c .before .loop in
@@ -93,5 +72,5 @@ returns-2 c =
 pub put-terms-spec : {M : Type 1} → statement M
 put-terms-spec =
     tie.close
-    (tie.spec Inv-loop μ-loop count-terms-requires loop-holds cast-t9 term-at-requires put-term-requires same-length returns add-i
-    loop-less loop-again same-length-2 returns-2)
+    (tie.spec Inv-loop μ-loop (λ c κs. search needs) loop-holds (λ c. search needs) (λ c κs. search needs) put-term-requires
+    (λ c. search needs) returns (λ c. search needs) (λ c. search needs) loop-again (λ c. search needs) returns-2)

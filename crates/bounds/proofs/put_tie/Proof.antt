@@ -7,15 +7,6 @@ use Rattle.bounds.proofs.Parts.{tie-refused, tie-put}
 use Rattle.bounds.proofs.put_tie.Statement.{statement}
 use Rattle.bounds.proofs.put_tie.Tie as tie
 
-to-requires : tie.Need-to-requires
-to-requires c κs = search needs
-
-insert-requires : tie.Need-insert-requires
-insert-requires c κs = search needs
-
-same-length : tie.Need-same-length
-same-length c = search needs
-
 returns : tie.Need-returns
 returns c =
     let called = c .before .before .before in
@@ -23,18 +14,12 @@ returns c =
     tie-refused _ (omega arith) (omega arith) (start .pre .1) (called .before .to .ensures) (called .insert .ensures)
     (not-true _ (c .if1 .taken))
 
-back-requires : tie.Need-back-requires
-back-requires c κs = search needs
-
 insert-requires-2 : tie.Need-insert-requires-2
 insert-requires-2 c κs =
     let called = c .before .before .before .before .before in (
       omega arith,
       ((c .back .ensures .there, c .back .ensures .near), called .insert .ensures .put (not-false _ (c .before .before .if1 .left)) .table),
     )
-
-same-length-2 : tie.Need-same-length-2
-same-length-2 c = search needs
 
 returns-2 : tie.Need-returns-2
 returns-2 c =
@@ -46,4 +31,6 @@ returns-2 c =
 
 pub put-tie-spec : {M : Type 1} → statement M
 put-tie-spec =
-    tie.close (tie.spec to-requires insert-requires same-length returns back-requires insert-requires-2 same-length-2 returns-2)
+    tie.close
+    (tie.spec (λ c κs. search needs) (λ c κs. search needs) (λ c. search needs) returns (λ c κs. search needs) insert-requires-2
+    (λ c. search needs) returns-2)

@@ -22,32 +22,8 @@ asked : {n : ℕ} {d : List ℕ} {a b g : ℕ} →
     ((length d ≡ cells) × (n ≤ stride) × (a < n) × (b < n)) × (((g < none) × Within step g) × Table n (cell d)) → Asked n d a b g
 asked p = record { size = p .0; bound = p .1 .0; table = p .1 .1 }
 
-mul-if1 : tie.Need-mul-if1 Inv-loop μ-loop
-mul-if1 c = omega arith
-
-add-if1 : tie.Need-add-if1 Inv-loop μ-loop
-add-if1 c = omega arith
-
-mul-if1-2 : tie.Need-mul-if1-2 Inv-loop μ-loop
-mul-if1-2 c = omega arith
-
-slice-read-if1 : tie.Need-slice-read-if1 Inv-loop μ-loop
-slice-read-if1 c = omega arith
-
 returns : tie.Need-returns Inv-loop μ-loop
 returns c = inserted-held _ _ _ _ _ (asked (c .before .before .before .before .pre)) (c .if1 .taken)
-
-mul-t9 : tie.Need-mul-t9 Inv-loop μ-loop
-mul-t9 c = omega arith
-
-add-t10 : tie.Need-add-t10 Inv-loop μ-loop
-add-t10 c = omega arith
-
-mul-t11 : tie.Need-mul-t11 Inv-loop μ-loop
-mul-t11 c = omega arith
-
-slice-read-t13 : tie.Need-slice-read-t13 Inv-loop μ-loop
-slice-read-t13 c = omega arith
 
 sum-requires : tie.Need-sum-requires Inv-loop μ-loop
 sum-requires c κs =
@@ -59,23 +35,8 @@ returns-2 c =
     let test = c .before .before .before in
     inserted-not _ _ _ _ _ (asked (c .before .before .before .before .before .before .before .before .before .pre)) (rw (test .sum .ensures .0) at (c .if2 .taken))
 
-row-of-requires : tie.Need-row-of-requires Inv-loop μ-loop
-row-of-requires c κs = omega arith
-
 loop-holds : tie.Need-loop-holds Inv-loop μ-loop
 loop-holds c = (omega arith, refl, none-yet _ _ _ _ _)
-
-mul-t23 : tie.Need-mul-t23 Inv-loop μ-loop
-mul-t23 c = omega arith
-
-add-t24 : tie.Need-add-t24 Inv-loop μ-loop
-add-t24 c = omega arith
-
-mul-t25 : tie.Need-mul-t25 Inv-loop μ-loop
-mul-t25 c = omega arith
-
-slice-read-t27 : tie.Need-slice-read-t27 Inv-loop μ-loop
-slice-read-t27 c = omega arith
 
 sum-requires-2 : tie.Need-sum-requires-2 Inv-loop μ-loop
 sum-requires-2 c κs =
@@ -97,12 +58,6 @@ relax-row-requires c κs =
       ),
     )
 
-add-i : tie.Need-add-i Inv-loop μ-loop
-add-i c = omega arith
-
-loop-less : tie.Need-loop-less Inv-loop μ-loop
-loop-less c = omega arith
-
 loop-again : tie.Need-loop-again Inv-loop μ-loop
 loop-again c =
     let called = c .before .before in
@@ -118,9 +73,6 @@ loop-again c =
 at-end : (c : tie.After-loop Inv-loop μ-loop) → c .before .loop .i ≡ c .before .before .before .before .before .before .before .before .before .before .before .before .before .args .n
 at-end c = omega arith
 
-same-length : tie.Need-same-length Inv-loop μ-loop
-same-length c = omega arith
-
 returns-3 : tie.Need-returns-3 Inv-loop μ-loop
 returns-3 c =
     let test = c .before .before .before .before in
@@ -130,6 +82,7 @@ returns-3 c =
 pub insert-spec : {M : Type 1} → statement M
 insert-spec =
     tie.close
-    (tie.spec Inv-loop μ-loop mul-if1 add-if1 mul-if1-2 slice-read-if1 returns mul-t9 add-t10 mul-t11 slice-read-t13 sum-requires
-    returns-2 row-of-requires loop-holds mul-t23 add-t24 mul-t25 slice-read-t27 sum-requires-2 relax-row-requires add-i loop-less
-    loop-again same-length returns-3)
+    (tie.spec Inv-loop μ-loop (λ c. omega arith) (λ c. omega arith) (λ c. omega arith) (λ c. omega arith) returns (λ c. omega arith)
+    (λ c. omega arith) (λ c. omega arith) (λ c. omega arith) sum-requires returns-2 (λ c κs. omega arith) loop-holds
+    (λ c. omega arith) (λ c. omega arith) (λ c. omega arith) (λ c. omega arith) sum-requires-2 relax-row-requires (λ c. omega arith)
+    (λ c. omega arith) loop-again (λ c. omega arith) returns-3)

@@ -23,32 +23,8 @@ one-more : (d row : List ℕ) (b j : ℕ) → j < length row → ((k : ℕ) → 
     → (k : ℕ) → k < j + 1 → getD (set row j (cell d b j)) k 0 ≡ cell d b k
 one-more d row b j h f = below-more _ j (λ k l. getD-set-other row j k _ 0 (omega arith) ∙ f k l) (getD-set-same row j _ 0 h)
 
-mul-at : tie.Need-mul-at Inv-loop μ-loop
-mul-at c = omega arith
-
 loop-holds : tie.Need-loop-holds Inv-loop μ-loop
 loop-holds c = (refl, omega arith, refl, λ k h. absurd (omega arith))
-
-add-row : tie.Need-add-row Inv-loop μ-loop
-add-row c = omega arith
-
-mul-row : tie.Need-mul-row Inv-loop μ-loop
-mul-row c = omega arith
-
-shared-slice-read-row : tie.Need-shared-slice-read-row Inv-loop μ-loop
-shared-slice-read-row c = omega arith
-
-mul-row-2 : tie.Need-mul-row-2 Inv-loop μ-loop
-mul-row-2 c = omega arith
-
-array-write-row : tie.Need-array-write-row Inv-loop μ-loop
-array-write-row c = omega arith
-
-add-j : tie.Need-add-j Inv-loop μ-loop
-add-j c = omega arith
-
-loop-less : tie.Need-loop-less Inv-loop μ-loop
-loop-less c = omega arith
 
 loop-again : tie.Need-loop-again Inv-loop μ-loop
 loop-again c =
@@ -66,5 +42,5 @@ returns c j h = c .before .loop .inv .3 j (omega arith)
 pub row-of-spec : {M : Type 1} → statement M
 row-of-spec =
     tie.close
-    (tie.spec Inv-loop μ-loop mul-at loop-holds add-row mul-row shared-slice-read-row mul-row-2 array-write-row add-j loop-less
-    loop-again returns)
+    (tie.spec Inv-loop μ-loop (λ c. omega arith) loop-holds (λ c. omega arith) (λ c. omega arith) (λ c. omega arith)
+    (λ c. omega arith) (λ c. omega arith) (λ c. omega arith) (λ c. omega arith) loop-again returns)

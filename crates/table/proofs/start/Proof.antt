@@ -58,15 +58,6 @@ loop-holds c =
       record { same = λ k l. absurd (omega arith); apart = λ k l j p ne. absurd (omega arith); right = λ k j p q. refl; below = λ k p. refl },
     )
 
-start-row-requires : tie.Need-start-row-requires Inv-loop μ-loop
-start-row-requires c κs = omega arith
-
-add-i : tie.Need-add-i Inv-loop μ-loop
-add-i c = omega arith
-
-loop-less : tie.Need-loop-less Inv-loop μ-loop
-loop-less c = omega arith
-
 loop-again : tie.Need-loop-again Inv-loop μ-loop
 loop-again c =
     let called = c .before .before in
@@ -76,11 +67,11 @@ loop-again c =
 at-end : (c : tie.After-loop Inv-loop μ-loop) → c .before .loop .i ≡ c .before .before .before .args .n
 at-end c = omega arith
 
-same-length : tie.Need-same-length Inv-loop μ-loop
-same-length c = omega arith
-
 returns : tie.Need-returns Inv-loop μ-loop
 returns c = all _ _ _ (omega arith) (rw (at-end c) at (c .before .loop .inv .2))
 
 pub start-spec : {M : Type 1} → statement M
-start-spec = tie.close (tie.spec Inv-loop μ-loop loop-holds start-row-requires add-i loop-less loop-again same-length returns)
+start-spec =
+    tie.close
+    (tie.spec Inv-loop μ-loop loop-holds (λ c κs. omega arith) (λ c. omega arith) (λ c. omega arith) loop-again (λ c. omega arith)
+    returns)

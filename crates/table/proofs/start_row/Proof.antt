@@ -20,18 +20,6 @@ with-zero old d i n h l F =
       after = λ k p. getD-set-other d (i * stride + i) k base 0 (omega arith) ∙ F .after k p;
     }
 
-mul-at : tie.Need-mul-at
-mul-at c = omega arith
-
-fill-requires : tie.Need-fill-requires
-fill-requires c κs = omega arith
-
-add-d : tie.Need-add-d
-add-d c = omega arith
-
-mul-d : tie.Need-mul-d
-mul-d c = omega arith
-
 slice-write-d : tie.Need-slice-write-d
 slice-write-d c = omega (arith, c .before .before .fill .kept .0)
 
@@ -42,4 +30,6 @@ returns : tie.Need-returns
 returns c = with-zero _ _ _ _ (omega arith) (omega (arith, c .before .before .fill .kept .0)) (c .before .before .fill .ensures)
 
 pub start-row-spec : {M : Type 1} → statement M
-start-row-spec = tie.close (tie.spec mul-at fill-requires add-d mul-d slice-write-d same-length returns)
+start-row-spec =
+    tie.close
+    (tie.spec (λ c. omega arith) (λ c κs. omega arith) (λ c. omega arith) (λ c. omega arith) slice-write-d same-length returns)

@@ -22,14 +22,8 @@ Inv-loop sheet set d l e₀ e =
 abbrev μ-loop : tie.MeasureT-loop
 μ-loop sheet set d l e₀ e = l - e
 
-count-entries-requires : tie.Need-count-entries-requires Inv-loop μ-loop
-count-entries-requires c κs = search needs
-
 loop-holds : tie.Need-loop-holds Inv-loop μ-loop
 loop-holds c = (omega arith, c .count-entries .ensures .0, λ k k<. absurd (omega arith))
-
-cast-t8 : tie.Need-cast-t8 Inv-loop μ-loop
-cast-t8 c = omega arith
 
 broken-at-requires : tie.Need-broken-at-requires Inv-loop μ-loop
 broken-at-requires c κs =
@@ -38,12 +32,6 @@ broken-at-requires c κs =
 
 returns : tie.Need-returns Inv-loop μ-loop
 returns c = found (omega arith) (c .before .broken-at .ensures .yes (c .if1 .taken))
-
-add-e : tie.Need-add-e Inv-loop μ-loop
-add-e c = omega arith
-
-loop-less : tie.Need-loop-less Inv-loop μ-loop
-loop-less c = omega arith
 
 loop-again : tie.Need-loop-again Inv-loop μ-loop
 loop-again c =
@@ -56,4 +44,5 @@ returns-2 c = let loop = c .before .loop in none (λ e e<. loop .inv .2 e (omega
 pub apart-spec : {M : Type 1} → statement M
 apart-spec =
     tie.close
-    (tie.spec Inv-loop μ-loop count-entries-requires loop-holds cast-t8 broken-at-requires returns add-e loop-less loop-again returns-2)
+    (tie.spec Inv-loop μ-loop (λ c κs. search needs) loop-holds (λ c. omega arith) broken-at-requires returns (λ c. omega arith)
+    (λ c. omega arith) loop-again returns-2)

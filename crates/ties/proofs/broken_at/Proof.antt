@@ -10,23 +10,8 @@ use Rattle.ties.proofs.Entries.{ends}
 use Rattle.ties.proofs.broken_at.Statement.{statement}
 use Rattle.ties.proofs.broken_at.Tie as tie
 
-cast-if1 : tie.Need-cast-if1
-cast-if1 c = search needs
-
-shared-slice-read-if1 : tie.Need-shared-slice-read-if1
-shared-slice-read-if1 c = search needs
-
 returns : tie.Need-returns
 returns c = refuted (λ p. differ (sym (p .0) ∙ not-true _ (c .if1 .taken)))
-
-count-terms-requires : tie.Need-count-terms-requires
-count-terms-requires c κs = search needs
-
-add-is-broken : tie.Need-add-is-broken
-add-is-broken c = search needs
-
-entry-at-requires : tie.Need-entry-at-requires
-entry-at-requires c κs = search needs
 
 is-broken-requires : tie.Need-is-broken-requires
 is-broken-requires c κs =
@@ -42,4 +27,5 @@ returns-2 c = rest (not-false _ (c .before .before .before .if1 .left)) (rw (c .
 pub broken-at-spec : {M : Type 1} → statement M
 broken-at-spec =
     tie.close
-    (tie.spec cast-if1 shared-slice-read-if1 returns count-terms-requires add-is-broken entry-at-requires is-broken-requires returns-2)
+    (tie.spec (λ c. search needs) (λ c. search needs) returns (λ c κs. search needs) (λ c. search needs) (λ c κs. search needs)
+    is-broken-requires returns-2)

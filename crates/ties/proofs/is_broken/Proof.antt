@@ -5,17 +5,8 @@ use Rattle.ties.proofs.Entries.{unequal-told, other-told}
 use Rattle.ties.proofs.is_broken.Statement.{statement}
 use Rattle.ties.proofs.is_broken.Tie as tie
 
-cast-a : tie.Need-cast-a
-cast-a c = search needs
-
-cast-b : tie.Need-cast-b
-cast-b c = search needs
-
 enum-told : tie.Need-enum-told
 enum-told c = search needs
-
-tied-at-requires : tie.Need-tied-at-requires
-tied-at-requires c κs = search needs
 
 returns : tie.Need-returns
 returns c = unequal-told (c .before .before .before .before .before .before .args .e) (c .before .enum-told .given .1) (c .tied-at .ensures)
@@ -24,4 +15,6 @@ returns-2 : tie.Need-returns-2
 returns-2 c = other-told (c .before .before .before .before .args .e) (c .match .keys2)
 
 pub is-broken-spec : {M : Type 1} → statement M
-is-broken-spec = tie.close (tie.spec cast-a cast-b enum-told tied-at-requires returns returns-2)
+is-broken-spec =
+    tie.close
+    (tie.spec (λ c. search needs) (λ c. search needs) enum-told (λ c κs. search needs) returns returns-2)

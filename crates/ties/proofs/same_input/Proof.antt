@@ -5,16 +5,10 @@ use Rattle.ties.proofs.Inputs.{argument, arguments, no-application}
 use Rattle.ties.proofs.same_input.Statement.{statement}
 use Rattle.ties.proofs.same_input.Tie as tie
 
-enum-known-t : tie.Need-enum-known-t
-enum-known-t c = search needs
-
 same-one-requires : tie.Need-same-one-requires
 same-one-requires c κs =
     let pre = c .before .before .before .before .pre in
     (pre .0, (argument (rw (c .before .t .given .1) at (pre .1 .0)), pre .1 .1))
-
-enum-known-t-2 : tie.Need-enum-known-t-2
-enum-known-t-2 c = search needs
 
 same-two-requires : tie.Need-same-two-requires
 same-two-requires c κs =
@@ -34,4 +28,4 @@ returns-3 c = no-application (c .before .before .args .t) (c .match .keys3)
 pub same-input-spec : {M : Type 1} → statement M
 same-input-spec =
     tie.close
-    (tie.spec enum-known-t same-one-requires enum-known-t-2 same-two-requires returns returns-2 returns-3)
+    (tie.spec (λ c. search needs) same-one-requires (λ c. search needs) same-two-requires returns returns-2 returns-3)

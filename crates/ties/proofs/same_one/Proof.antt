@@ -5,9 +5,6 @@ use Rattle.ties.proofs.Inputs.{argument, one-told, other-one}
 use Rattle.ties.proofs.same_one.Statement.{statement}
 use Rattle.ties.proofs.same_one.Tie as tie
 
-enum-known-u : tie.Need-enum-known-u
-enum-known-u c = search needs
-
 alike-requires : tie.Need-alike-requires
 alike-requires c κs =
     let pre = c .before .before .before .before .pre in
@@ -20,4 +17,4 @@ returns-2 : tie.Need-returns-2
 returns-2 c = other-one (c .before .before .args .u) (c .match .keys2)
 
 pub same-one-spec : {M : Type 1} → statement M
-same-one-spec = tie.close (tie.spec enum-known-u alike-requires returns returns-2)
+same-one-spec = tie.close (tie.spec (λ c. search needs) alike-requires returns returns-2)

@@ -7,9 +7,6 @@ use Rattle.ties.proofs.Inputs.{arguments, two-refuted, two-told, other-
 use Rattle.ties.proofs.same_two.Statement.{statement}
 use Rattle.ties.proofs.same_two.Tie as tie
 
-enum-known-u : tie.Need-enum-known-u
-enum-known-u c = search needs
-
 alike-requires : tie.Need-alike-requires
 alike-requires c κs =
     let pre = c .before .before .before .before .pre in
@@ -18,12 +15,6 @@ alike-requires c κs =
 
 returns : tie.Need-returns
 returns c = rw (c .before .before .before .u .given .1) (two-refuted (c .before .alike .ensures .no (not-true _ (c .if1 .taken))))
-
-cast-tied-at : tie.Need-cast-tied-at
-cast-tied-at c = search needs
-
-cast-tied-at-2 : tie.Need-cast-tied-at-2
-cast-tied-at-2 c = search needs
 
 tied-at-requires : tie.Need-tied-at-requires
 tied-at-requires c κs =
@@ -43,4 +34,4 @@ returns-3 c = other-two (c .before .before .args .u) (c .match .keys2)
 pub same-two-spec : {M : Type 1} → statement M
 same-two-spec =
     tie.close
-    (tie.spec enum-known-u alike-requires returns cast-tied-at cast-tied-at-2 tied-at-requires returns-2 returns-3)
+    (tie.spec (λ c. search needs) alike-requires returns (λ c. search needs) (λ c. search needs) tied-at-requires returns-2 returns-3)

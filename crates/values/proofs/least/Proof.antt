@@ -17,26 +17,8 @@ Inv-loop d i n m₀ s₀ m s = (s ≤ n) × (m ≡ leastOf s (cell d i)) × (m �
 abbrev μ-loop : tie.MeasureT-loop
 μ-loop d i n m₀ s₀ m s = n - s
 
-whole-requires : tie.Need-whole-requires Inv-loop μ-loop
-whole-requires c κs = search needs
-
 loop-holds : tie.Need-loop-holds Inv-loop μ-loop
 loop-holds c = (omega arith, c .whole .ensures ∙ least-none _, omega arith)
-
-gap-at-requires : tie.Need-gap-at-requires Inv-loop μ-loop
-gap-at-requires c κs = search needs
-
-whole-requires-2 : tie.Need-whole-requires-2 Inv-loop μ-loop
-whole-requires-2 c κs = search needs
-
-lesser-requires : tie.Need-lesser-requires Inv-loop μ-loop
-lesser-requires c κs = search needs
-
-add-s : tie.Need-add-s Inv-loop μ-loop
-add-s c = search needs
-
-loop-less : tie.Need-loop-less Inv-loop μ-loop
-loop-less c = search needs
 
 loop-again : tie.Need-loop-again Inv-loop μ-loop
 loop-again c =
@@ -56,15 +38,5 @@ returns c = (rw (at-end c) at (c .before .loop .inv .1), omega arith)
 pub least-spec : {M : Type 1} → statement M
 least-spec =
     tie.close
-    (tie.spec
-    Inv-loop
-    μ-loop
-    whole-requires
-    loop-holds
-    gap-at-requires
-    whole-requires-2
-    lesser-requires
-    add-s
-    loop-less
-    loop-again
-    returns)
+    (tie.spec Inv-loop μ-loop (λ c κs. search needs) loop-holds (λ c κs. search needs) (λ c κs. search needs) (λ c κs. search needs)
+    (λ c. search needs) (λ c. search needs) loop-again returns)

@@ -21,21 +21,6 @@ level-is d n i o t p e f g = ap₂ (λ (t p : ℕ). n * t + p) (f ∙ ap (λ (o 
 product : (n t : ℕ) → n ≤ stride → t ≤ n * none → n * t ≤ stride * (stride * none)
 product n t h k = mul-le-mul {n₂ = stride} {m₂ = stride * none} h (omega arith)
 
-mul-other : tie.Need-mul-other
-mul-other c = search needs
-
-add-other : tie.Need-add-other
-add-other c = search needs
-
-least-requires : tie.Need-least-requires
-least-requires c κs = search needs
-
-add-other-2 : tie.Need-add-other-2
-add-other-2 c = search needs
-
-total-requires : tie.Need-total-requires
-total-requires c κs = search needs
-
 mul-result : tie.Need-mul-result
 mul-result c = omega (arith, product _ _ (omega arith) (c .total .ensures .1))
 
@@ -59,13 +44,5 @@ returns c =
 pub level-spec : {M : Type 1} → statement M
 level-spec =
     tie.close
-    (tie.spec
-    mul-other
-    add-other
-    least-requires
-    add-other-2
-    total-requires
-    mul-result
-    lowest-requires
-    add-result
-    returns)
+    (tie.spec (λ c. search needs) (λ c. search needs) (λ c κs. search needs) (λ c. search needs) (λ c κs. search needs) mul-result
+    lowest-requires add-result returns)

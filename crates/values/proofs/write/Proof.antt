@@ -36,18 +36,6 @@ closed : (c : tie.After-count-terms Inv-loop μ-loop) →
     Closed n (reach n) (cell (c .before .before .before .before .args .d .now))
 closed c = rw (c .count-terms .ensures .0) (c .before .before .before .before .pre .1 .1)
 
-count-terms-requires : tie.Need-count-terms-requires Inv-loop μ-loop
-count-terms-requires c κs = search needs
-
-add-n : tie.Need-add-n Inv-loop μ-loop
-add-n c = search needs
-
-mul-size : tie.Need-mul-size Inv-loop μ-loop
-mul-size c = search needs
-
-add-size : tie.Need-add-size Inv-loop μ-loop
-add-size c = search needs
-
 mul-head : tie.Need-mul-head Inv-loop μ-loop
 mul-head c = omega (arith, square (c .before .count-terms .result) (small (c .before)))
 
@@ -66,24 +54,6 @@ level-requires-2 : tie.Need-level-requires-2 Inv-loop μ-loop
 level-requires-2 c κs =
     let counted = c .before .before .before .before .before .before .before in
     ((omega arith, omega arith, omega (arith, small counted)), closed counted)
-
-wrapping-sub-u64-requires : tie.Need-wrapping-sub-u64-requires Inv-loop μ-loop
-wrapping-sub-u64-requires c κs = search needs
-
-mul-write : tie.Need-mul-write Inv-loop μ-loop
-mul-write c = search needs
-
-add-write : tie.Need-add-write Inv-loop μ-loop
-add-write c = search needs
-
-write-requires : tie.Need-write-requires Inv-loop μ-loop
-write-requires c κs = search needs
-
-add-i : tie.Need-add-i Inv-loop μ-loop
-add-i c = search needs
-
-loop-less : tie.Need-loop-less Inv-loop μ-loop
-loop-less c = search needs
 
 loop-again : tie.Need-loop-again Inv-loop μ-loop
 loop-again c =
@@ -106,9 +76,6 @@ loop-again c =
       fill-more (head .loop .inv .3) (called .write .ensures .0 ∙ v, called .write .ensures .1),
     )
 
-same-length : tie.Need-same-length Inv-loop μ-loop
-same-length c = search needs
-
 returns : tie.Need-returns Inv-loop μ-loop
 returns c =
     let head = c .before in
@@ -124,24 +91,6 @@ returns c =
 pub write-spec : {M : Type 1} → statement M
 write-spec =
     tie.close
-    (tie.spec
-    Inv-loop
-    μ-loop
-    count-terms-requires
-    add-n
-    mul-size
-    add-size
-    mul-head
-    head-requires
-    level-requires
-    loop-holds
-    level-requires-2
-    wrapping-sub-u64-requires
-    mul-write
-    add-write
-    write-requires
-    add-i
-    loop-less
-    loop-again
-    same-length
-    returns)
+    (tie.spec Inv-loop μ-loop (λ c κs. search needs) (λ c. search needs) (λ c. search needs) (λ c. search needs) mul-head
+    head-requires level-requires loop-holds level-requires-2 (λ c κs. search needs) (λ c. search needs) (λ c. search needs)
+    (λ c κs. search needs) (λ c. search needs) (λ c. search needs) loop-again (λ c. search needs) returns)

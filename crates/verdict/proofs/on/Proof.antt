@@ -7,12 +7,6 @@ use Rattle.verdict.proofs.Final.{with-terms, with-entries, with-functio
 use Rattle.verdict.proofs.on.Statement.{statement}
 use Rattle.verdict.proofs.on.Tie as tie
 
-count-terms-requires : tie.Need-count-terms-requires
-count-terms-requires c κs = search needs
-
-add-start : tie.Need-add-start
-add-start c = search needs
-
 start-requires : tie.Need-start-requires
 start-requires c κs = (omega arith, omega (arith, c .before .before .before .before .before .pre .0 .1 .terms))
 
@@ -20,9 +14,6 @@ put-terms-requires : tie.Need-put-terms-requires
 put-terms-requires c κs =
     let start = c .before .before .before .before .before .before .before .before .before in
     (start .pre .0, (omega arith, rw (c .before .before .before .before .count-terms .ensures .0) at (c .before .before .before .start .ensures .table)))
-
-same-length : tie.Need-same-length
-same-length c = omega arith
 
 returns : tie.Need-returns
 returns c =
@@ -34,9 +25,6 @@ put-entries-requires : tie.Need-put-entries-requires
 put-entries-requires c κs =
     let start = c .before .before .before .before .before .before .before .before .before .before .before .before .before .before in
     (start .pre .0, (start .pre .1 .0, (omega arith, c .before .before .before .before .put-terms .ensures .went (not-false _ (c .before .if1 .left)) .table)))
-
-same-length-2 : tie.Need-same-length-2
-same-length-2 c = omega arith
 
 returns-2 : tie.Need-returns-2
 returns-2 c =
@@ -50,9 +38,6 @@ settle-requires : tie.Need-settle-requires
 settle-requires c κs =
     let start = c .before .before .before .before .before .before .before .before .before .before .before .before .before .before .before .before .before .before .before in
     (start .pre .0, (omega arith, c .before .before .before .before .put-entries .ensures .went (not-false _ (c .before .if2 .left)) .table))
-
-same-length-3 : tie.Need-same-length-3
-same-length-3 c = omega arith
 
 returns-3 : tie.Need-returns-3
 returns-3 c =
@@ -68,9 +53,6 @@ apart-requires c κs =
     let start = c .before .before .before .before .before .before .before .before .before .before .before .before .before .before .before .before .before .before .before .before .before .before .before .before in
     (start .pre .0, ((start .pre .1 .0, omega arith), c .before .before .before .before .settle .ensures .went (not-false _ (c .before .if3 .left)) .table .closed))
 
-same-length-4 : tie.Need-same-length-4
-same-length-4 c = omega arith
-
 returns-4 : tie.Need-returns-4
 returns-4 c =
     let start = c .before .before .before .before .before .before .before .before .before .before .before .before .before .before .before .before .before .before .before .before .before .before .before .before .before .before in
@@ -79,9 +61,6 @@ returns-4 c =
     let B = with-entries _ _ wf (not-false _ (c .before .before .before .before .before .before .before .before .before .before .before .before .before .if1 .left)) A (c .before .before .before .before .before .before .before .before .before .before .before .put-entries .ensures) in
     let C = with-functions _ _ wf (not-false _ (c .before .before .before .before .before .before .before .before .if2 .left)) B (c .before .before .before .before .before .before .settle .ensures) in
     broken _ _ wf (c .before .before .before .before .before .before .before .before .before .before .before .before .before .before .before .before .before .before .before .before .before .count-terms .ensures .0) (c .before .before .before .before .before .before .before .before .before .before .before .before .before .before .before .before .before .before .before .before .start .ensures) C (not-false _ (c .before .before .before .if3 .left)) (c .before .apart .ensures) (not-true _ (c .if4 .taken))
-
-same-length-5 : tie.Need-same-length-5
-same-length-5 c = omega arith
 
 returns-5 : tie.Need-returns-5
 returns-5 c =
@@ -95,6 +74,6 @@ returns-5 c =
 pub on-spec : {M : Type 1} → statement M
 on-spec =
     tie.close
-    (tie.spec count-terms-requires add-start start-requires put-terms-requires same-length returns put-entries-requires
-    same-length-2 returns-2 settle-requires same-length-3 returns-3 apart-requires same-length-4 returns-4 same-length-5
-    returns-5)
+    (tie.spec (λ c κs. search needs) (λ c. search needs) start-requires put-terms-requires (λ c. omega arith) returns
+    put-entries-requires (λ c. omega arith) returns-2 settle-requires (λ c. omega arith) returns-3 apart-requires (λ c. omega arith)
+    returns-4 (λ c. omega arith) returns-5)

@@ -1,14 +1,14 @@
 -- `verdict::pass` meets its contract: the rows before the counter are passed (proofs/Passes.antt).
 -- Assumes nothing.
 use Prim.Native.Nat.{_-_, _≤_}
-use mathlib.Core.Path.{_≡_, refl}
+use mathlib.Core.Path.{_≡_, refl, sym, _∙_}
 use lib.ListN.{length}
 use native.Mathlib.Omega.{arith}
 use borrow.Author.Needs.{needs}
 use Rattle.sheet.specs.Decode.{sheetOf}
 use Rattle.sheet.specs.Sheet.{countTerms}
 use Rattle.verdict.specs.Passing.{PairTied, EachTied}
-use Rattle.verdict.proofs.Passes.{Sofar, is-clash, no-clash, none-yet, more, ended, clash-after}
+use Rattle.verdict.proofs.Passes.{Sofar, none-yet, sofar-table, more, ended, clash-after}
 use Rattle.verdict.proofs.pass.Statement.{statement}
 use Rattle.verdict.proofs.pass.Tie as tie
 
@@ -20,9 +20,6 @@ Inv-loop sheet d₀ t fresh₀ i₀ d fresh i =
 abbrev μ-loop : tie.MeasureT-loop
 μ-loop sheet d₀ t fresh₀ i₀ d fresh i = t - i
 
-count-terms-requires : tie.Need-count-terms-requires Inv-loop μ-loop
-count-terms-requires c κs = search needs
-
 loop-holds : tie.Need-loop-holds Inv-loop μ-loop
 loop-holds c = (omega arith, c .count-terms .ensures .0, refl, none-yet _ (c .before .before .before .pre .1 .1))
 
@@ -30,27 +27,12 @@ pass-row-requires : tie.Need-pass-row-requires Inv-loop μ-loop
 pass-row-requires c κs =
     let loop = c .before .before .loop in
     let start = c .before .before .before .before .before .before in
-    ((start .pre .0 .0, start .pre .0 .1, omega arith), (omega arith, loop .inv .3 .steps .went refl .table))
-
-is-clash-requires : tie.Need-is-clash-requires Inv-loop μ-loop
-is-clash-requires c κs = search needs
-
-same-length : tie.Need-same-length Inv-loop μ-loop
-same-length c = search needs
+    ((start .pre .0 .0, start .pre .0 .1, omega arith), (omega arith, sofar-table _ (loop .inv .3)))
 
 returns : tie.Need-returns Inv-loop μ-loop
 returns c =
     let row = c .before .before .before .before in
-    clash-after _ (c .before .before .before .before .before .before .before .loop .inv .3) (row .pass-row .ensures) (is-clash _ (c .before .is-clash .ensures) (c .if1 .taken))
-
-is-new-requires : tie.Need-is-new-requires Inv-loop μ-loop
-is-new-requires c κs = search needs
-
-add-i : tie.Need-add-i Inv-loop μ-loop
-add-i c = search needs
-
-loop-less : tie.Need-loop-less Inv-loop μ-loop
-loop-less c = search needs
+    clash-after _ (c .before .before .before .before .before .before .before .loop .inv .3) (row .pass-row .ensures) (sym (c .before .is-clash .ensures) ∙ c .if1 .taken)
 
 loop-again : tie.Need-loop-again Inv-loop μ-loop
 loop-again c =
@@ -59,23 +41,17 @@ loop-again c =
       omega arith,
       loop .inv .1,
       omega arith,
-      rw (c .is-new .ensures) (more _ (loop .fresh) _ (loop .inv .3) (c .before .before .before .before .before .pass-row .ensures) (no-clash _ (test .is-clash .ensures) (c .before .if1 .left))),
+      rw (c .is-new .ensures) (more _ (loop .inv .3) (c .before .before .before .before .before .pass-row .ensures) (sym (test .is-clash .ensures) ∙ c .before .if1 .left)),
     )
-
-answered-requires : tie.Need-answered-requires Inv-loop μ-loop
-answered-requires c κs = search needs
-
-same-length-2 : tie.Need-same-length-2 Inv-loop μ-loop
-same-length-2 c = search needs
 
 returns-2 : tie.Need-returns-2 Inv-loop μ-loop
 returns-2 c =
     let loop = c .before .before .loop in
     let end : loop .i ≡ countTerms (sheetOf (c .before .before .before .before .before .before .args .sheet .now)) = omega arith in
-    rw (c .answered .ensures) (ended _ (loop .fresh) (rw end at (loop .inv .3)))
+    rw (c .answered .ensures) (ended _ (rw end at (loop .inv .3)))
 
 pub pass-spec : {M : Type 1} → statement M
 pass-spec =
     tie.close
-    (tie.spec Inv-loop μ-loop count-terms-requires loop-holds pass-row-requires is-clash-requires same-length returns
-    is-new-requires add-i loop-less loop-again answered-requires same-length-2 returns-2)
+    (tie.spec Inv-loop μ-loop (λ c κs. search needs) loop-holds pass-row-requires (λ c κs. search needs) (λ c. search needs) returns
+    (λ c κs. search needs) (λ c. search needs) (λ c. search needs) loop-again (λ c κs. search needs) (λ c. search needs) returns-2)
