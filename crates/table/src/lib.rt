@@ -34,16 +34,16 @@ pub fn insert(d: &mut [u32], n: usize, a: usize, b: usize, g: Gap) -> bool
     requires { ⌜ Table n (cell (now d)) ⌝ }
     ensures { λ r. ⌜ Inserted n (now (d .entry)) (now (d .exit)) a b (g .0) r ⌝ }
 {
-    if d[a * STRIDE + b] <= g.0 {
+    if gap_at(d, a, b).0 <= g.0 {
         return true;
     }
-    if g.sum(Gap(d[b * STRIDE + a])).0 < Gap::ZERO.0 {
+    if g.sum(gap_at(d, b, a)).0 < Gap::ZERO.0 {
         return false;
     }
     let row = row_of(d, b);
     let mut i = 0;
     while i < n {
-        let via = Gap(d[i * STRIDE + a]).sum(g);
+        let via = gap_at(d, i, a).sum(g);
         relax_row(d, i, b, via, &row, n);
         i += 1;
     }
@@ -55,8 +55,16 @@ pub fn tied(d: &[u32], a: usize, b: usize) -> Gap
     requires { ⌜ (length (now d) ≡ cells) × (a < stride) × (b < stride) ⌝ }
     ensures { λ r. ⌜ r .0 ≡ tieOf (cell (now (d .entry))) a b ⌝ }
 {
-    let to = d[a * STRIDE + b];
-    if is_tie(to, d[b * STRIDE + a]) { Gap(to) } else { Gap::NONE }
+    let to = gap_at(d, a, b);
+    if is_tie(to.0, gap_at(d, b, a).0) { to } else { Gap::NONE }
+}
+
+// The gap from i to j.
+pub fn gap_at(d: &[u32], i: usize, j: usize) -> Gap
+    requires { ⌜ (length (now d) ≡ cells) × (i < stride) × (j < stride) ⌝ }
+    ensures { λ r. ⌜ r .0 ≡ cell (now (d .entry)) i j ⌝ }
+{
+    Gap(d[i * STRIDE + j])
 }
 
 // Whether two codes are a gap and the same one back, neither strict.
@@ -117,10 +125,10 @@ fn relax_row(d: &mut [u32], i: usize, b: usize, via: Gap, row: &[u32; 65], n: us
     requires { ⌜ (cell (now d) i b ≤ via .0 → (j : ℕ) → j < n → cell (now d) i j ≤ sumOf (via .0) (getD (now row) j 0)) ⌝ }
     ensures { λ _. ⌜ RowRelaxed (now (d .entry)) (now (d .exit)) (now (row .entry)) i (via .0) n ⌝ }
 {
-    let at = i * STRIDE;
-    if d[at + b] <= via.0 {
+    if gap_at(d, i, b).0 <= via.0 {
         return;
     }
+    let at = i * STRIDE;
     let mut j = 0;
     while j < n {
         d[at + j] = Gap(d[at + j]).tighter(via.sum(Gap(row[j]))).0;

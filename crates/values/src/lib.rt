@@ -70,7 +70,7 @@ fn total(d: &[u32], i: usize, n: usize, other: u64) -> u64
     let mut sum: u64 = 0;
     let mut s = 0;
     while s < n {
-        sum += term(other, gap_at(d, i, s));
+        sum += term(other, table::gap_at(d, i, s).0);
         s += 1;
     }
     sum
@@ -84,7 +84,7 @@ fn least(d: &[u32], i: usize, n: usize) -> u64
     let mut m = whole(Gap::ZERO.0);
     let mut s = 0;
     while s < n {
-        m = lesser(m, whole(gap_at(d, i, s)));
+        m = lesser(m, whole(table::gap_at(d, i, s).0));
         s += 1;
     }
     m
@@ -103,14 +103,6 @@ fn whole(g: u32) -> u64
     ensures { λ r. ⌜ r ≡ wholeAt g ⌝ }
 {
     (wide(g) + 1) / 2
-}
-
-// The gap from i to j.
-fn gap_at(d: &[u32], i: usize, j: usize) -> u32
-    requires { ⌜ (length (now d) ≡ cells) × (i < stride) × (j < stride) ⌝ }
-    ensures { λ r. ⌜ r ≡ cell (now (d .entry)) i j ⌝ }
-{
-    d[i * table::STRIDE + j]
 }
 
 fn lesser(x: u64, y: u64) -> u64

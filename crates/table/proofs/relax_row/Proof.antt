@@ -39,14 +39,14 @@ one-more old d row i via j v R h e =
 
 returns : tie.Need-returns Inv-loop μ-loop
 returns c =
-    let start = c .before .before .before .before in
-    skipped _ _ (start .args .i) (start .args .via .0) (start .args .n) (start .pre .1 .1 (c .if1 .taken))
+    let start = c .before .before .before .before .before .before in
+    skipped _ _ (start .args .i) (start .args .via .0) (start .args .n) (start .pre .1 .1 (rw (c .before .before .before .gap-at .ensures) at (c .if1 .taken)))
 
 loop-holds : tie.Need-loop-holds Inv-loop μ-loop
 loop-holds c = (refl, omega arith, refl, none-yet _ _ _ _)
 
 sum-requires : tie.Need-sum-requires Inv-loop μ-loop
-sum-requires c κs = c .before .before .before .before .before .before .before .before .pre .1 .0 _ (omega arith)
+sum-requires c κs = c .before .before .before .before .before .before .before .before .before .before .pre .1 .0 _ (omega arith)
 
 loop-again : tie.Need-loop-again Inv-loop μ-loop
 loop-again c =
@@ -57,16 +57,14 @@ loop-again c =
       one-more _ _ _ _ _ _ _ (head .loop .inv .3) (omega arith) (c .tighter .ensures .0 ∙ ap (tighterOf _) (c .before .sum .ensures .0)),
     )
 
-at-end : (c : tie.After-loop Inv-loop μ-loop) → c .before .loop .j ≡ c .before .before .before .before .before .before .args .n
-at-end c = omega arith
-
 returns-2 : tie.Need-returns-2 Inv-loop μ-loop
-returns-2 c = rw (at-end c) at (c .before .loop .inv .3)
+returns-2 c =
+    let end : c .before .loop .j ≡ c .before .before .before .before .before .before .before .before .args .n = omega arith in
+    rw end at (c .before .loop .inv .3)
 
 pub relax-row-spec : {M : Type 1} → statement M
 relax-row-spec =
     tie.close
-    (tie.spec Inv-loop μ-loop (λ c. omega arith) (λ c. omega arith) (λ c. omega arith) (λ c. omega arith) returns loop-holds
-    (λ c. omega arith) (λ c. omega arith) (λ c. omega arith) (λ c. omega arith) (λ c. omega arith) sum-requires (λ c κs. search needs)
-    (λ c. omega arith) (λ c. omega arith) (λ c. omega arith) (λ c. omega arith) (λ c. omega arith) loop-again (λ c. omega arith)
-    returns-2)
+    (tie.spec Inv-loop μ-loop (λ c κs. search needs) (λ c. search needs) returns (λ c. omega arith) loop-holds (λ c. omega arith)
+    (λ c. omega arith) (λ c. omega arith) (λ c. omega arith) (λ c. omega arith) sum-requires (λ c κs. search needs) (λ c. omega arith)
+    (λ c. omega arith) (λ c. omega arith) (λ c. omega arith) (λ c. omega arith) loop-again (λ c. search needs) returns-2)
