@@ -4,18 +4,18 @@
 ghost use mathlib.Core.Path.{_≡_};
 ghost use mathlib.Core.Bool.{false};
 ghost use Prim.Native.Nat.{_+_, _≤_, _<_};
-ghost use lib.ListN.{length, getD};
+ghost use lib.ListN.{length};
 ghost use Rattle.closure.specs.Closed.{TiedAt};
 ghost use Rattle.closure.specs.Table.{Table};
 ghost use Rattle.table.specs.Cells.{stride, cells, cell};
+ghost use Rattle.order.specs.First.{marked};
 ghost use Rattle.sheet.specs.Decode.{Sized, sheetOf};
 ghost use Rattle.sheet.specs.Says.{biasedSays, termSays, entrySays};
-ghost use Rattle.sheet.specs.Sheet.{ArgumentsBelow, WellFormed, countTerms, countEntries, entryAt};
+ghost use Rattle.sheet.specs.Sheet.{ArgumentsBelow, WellFormed, countEntries};
 ghost use Rattle.meaning.specs.Meaning.{EntryTrue};
 ghost use Rattle.values.specs.Settled.{points, TermHeld, EntryHeld};
 ghost use Rattle.bounds.specs.Step.{Stepped, Weak, Strict};
-ghost use Rattle.bounds.specs.True.{TieTrue, TermTrue, TermsTrue, EntriesTrue, MarkedTrue, TermsHeld, EntriesHeld, MarkedHeld};
-
+ghost use Rattle.bounds.specs.True.{TieTrue, TermTrue, TermsPut, MarkedPut, EntriesPut};
 use gap::Gap;
 use sheet::Biased;
 use sheet::Entry;
@@ -28,7 +28,7 @@ use sheet::TermNumber;
 pub fn put_terms(sheet: &[u8], d: &mut [u32]) -> bool
     requires { ⌜ Sized (now sheet) × WellFormed (sheetOf (now sheet)) ⌝ }
     requires { ⌜ (length (now d) ≡ cells) × Table (points (sheetOf (now sheet))) (cell (now d)) ⌝ }
-    ensures { λ r. ⌜ Stepped (points (sheetOf (now (sheet .entry)))) (TermsTrue (sheetOf (now (sheet .entry)))) (TermsHeld (sheetOf (now (sheet .entry))) (countTerms (sheetOf (now (sheet .entry))))) (now (d .entry)) (now (d .exit)) r ⌝ }
+    ensures { λ r. ⌜ TermsPut (sheetOf (now (sheet .entry))) (now (d .entry)) (now (d .exit)) r ⌝ }
 {
     let t = sheet::count_terms(sheet);
     let mut i = 0;
@@ -46,7 +46,7 @@ pub fn put_entries(sheet: &[u8], set: &[bool], d: &mut [u32]) -> bool
     requires { ⌜ Sized (now sheet) × WellFormed (sheetOf (now sheet)) ⌝ }
     requires { ⌜ countEntries (sheetOf (now sheet)) ≤ length (now set) ⌝ }
     requires { ⌜ (length (now d) ≡ cells) × Table (points (sheetOf (now sheet))) (cell (now d)) ⌝ }
-    ensures { λ r. ⌜ Stepped (points (sheetOf (now (sheet .entry)))) (EntriesTrue (sheetOf (now (sheet .entry))) (λ e. getD (now (set .entry)) e false)) (EntriesHeld (sheetOf (now (sheet .entry))) (λ e. getD (now (set .entry)) e false) (countEntries (sheetOf (now (sheet .entry))))) (now (d .entry)) (now (d .exit)) r ⌝ }
+    ensures { λ r. ⌜ EntriesPut (sheetOf (now (sheet .entry))) (marked (now (set .entry))) (now (d .entry)) (now (d .exit)) r ⌝ }
 {
     let l = sheet::count_entries(sheet);
     let mut e = 0;
@@ -89,7 +89,7 @@ fn put_marked(sheet: &[u8], set: &[bool], d: &mut [u32], e: EntryNumber) -> bool
     requires { ⌜ Sized (now sheet) × WellFormed (sheetOf (now sheet)) ⌝ }
     requires { ⌜ (e .0 < countEntries (sheetOf (now sheet))) × (e .0 < length (now set)) ⌝ }
     requires { ⌜ (length (now d) ≡ cells) × Table (points (sheetOf (now sheet))) (cell (now d)) ⌝ }
-    ensures { λ r. ⌜ Stepped (points (sheetOf (now (sheet .entry)))) (MarkedTrue (getD (now (set .entry)) (e .0) false) (entryAt (sheetOf (now (sheet .entry))) (e .0))) (MarkedHeld (getD (now (set .entry)) (e .0) false) (entryAt (sheetOf (now (sheet .entry))) (e .0))) (now (d .entry)) (now (d .exit)) r ⌝ }
+    ensures { λ r. ⌜ MarkedPut (sheetOf (now (sheet .entry))) (marked (now (set .entry))) (e .0) (now (d .entry)) (now (d .exit)) r ⌝ }
 {
     if !set[e.0 as usize] {
         return true;

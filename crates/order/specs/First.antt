@@ -21,6 +21,10 @@ abbrev pub setOf : List ℕ → Set
 setOf [] x = false
 setOf (y ∷ ys) x = eqb x y || setOf ys x
 
+-- the entries that a list of marks marks
+abbrev pub marked : List Bool → Set
+marked marks x = getD marks x false
+
 -- a ranking without ties
 abbrev pub NoTies : ℕ → (ℕ → ℕ) → Type 0
 NoTies L rank = (x y : ℕ) → x < L → y < L → rank x ≡ rank y → x ≡ y

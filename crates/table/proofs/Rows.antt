@@ -106,7 +106,7 @@ module _ (n : ℕ) (old : List ℕ) (a b g : ℕ) (A : Asked n old a b g) where
                   omega (
                     arith,
                     row-kept n (reach n) (cell old) a b g i j a< b< i< j< near (omega arith) (T .closed)
-                    (held-kept n (reach n) (cell old) a b g i a< b< i< near (omega arith) (T .closed) h),
+                        (held-kept n (reach n) (cell old) a b g i a< b< i< near (omega arith) (T .closed) h),
                   );
             };
         table = T;

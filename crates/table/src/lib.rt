@@ -7,7 +7,6 @@ ghost use Rattle.gap.specs.Code.{none, sumOf, Addable, Within};
 ghost use Rattle.closure.specs.Closed.{tie, tieOf};
 ghost use Rattle.closure.specs.Table.{Table, step};
 ghost use Rattle.table.specs.Cells.{stride, cells, cell, Filled, RowStarted, RowRelaxed, Inserted, Started};
-
 use gap::Gap;
 
 // The most points: a sheet's terms and the zero level.
@@ -56,7 +55,11 @@ pub fn tied(d: &[u32], a: usize, b: usize) -> Gap
     ensures { λ r. ⌜ r .0 ≡ tieOf (cell (now (d .entry))) a b ⌝ }
 {
     let to = gap_at(d, a, b);
-    if is_tie(to.0, gap_at(d, b, a).0) { to } else { Gap::NONE }
+    if is_tie(to.0, gap_at(d, b, a).0) {
+        to
+    } else {
+        Gap::NONE
+    }
 }
 
 // The gap from i to j.

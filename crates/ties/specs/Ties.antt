@@ -6,7 +6,7 @@ use mathlib.Core.Bool.{Bool, true, false}
 use lib.IntN.{pos}
 use Rattle.closure.specs.Closed.{TiedAt}
 use Rattle.order.specs.First.{Set}
-use Rattle.sheet.specs.Sheet.{Term, unequal, Entry, Sheet, countEntries, entryAt}
+use Rattle.sheet.specs.Sheet.{Term, unknown, number, shift, apply, apply2, unequal, Entry, Sheet, countEntries, entryAt}
 use Rattle.meaning.specs.Meaning.{SameInput}
 use Rattle.values.specs.Settled.{Apart}
 
@@ -14,6 +14,14 @@ use Rattle.values.specs.Settled.{Apart}
 pub record Decides (A : Type 0) (answer : Bool) : Type 0 where
   pub yes : answer ≡ true → A
   pub no : answer ≡ false → A → ⊥
+
+-- a term of kind 3 or 4: no other has an input
+abbrev pub isApplication : Term → Bool
+isApplication unknown = false
+isApplication (number c) = false
+isApplication (shift a c) = false
+isApplication (apply symbol a) = true
+isApplication (apply2 symbol a b) = true
 
 -- the table says that the two terms have the same input
 abbrev pub Joined : (ℕ → ℕ → ℕ) → Term → Term → Type 0
@@ -23,6 +31,9 @@ Joined d t u = SameInput (λ a b. TiedAt d a b (pos 0)) t u
 pub record Broken (d : ℕ → ℕ → ℕ) (e : Entry) : Type 0 where
   pub unequal· : e .relation ≡ unequal
   pub tied : TiedAt d (e .a) (e .b) (e .c)
+
+abbrev pub BrokenAt : Sheet → Set → (ℕ → ℕ → ℕ) → ℕ → Type 0
+BrokenAt s S d e = (S e ≡ true) × Broken d (entryAt s e)
 
 pub record BrokenSome (s : Sheet) (S : Set) (d : ℕ → ℕ → ℕ) : Type 0 where
   pub e : ℕ

@@ -4,16 +4,16 @@ ghost use mathlib.Core.Path.{_≡_};
 ghost use mathlib.Core.Bool.{true, false};
 ghost use Prim.Native.Nat.{_≤_, _<_};
 ghost use lib.IntN.{pos};
-ghost use lib.ListN.{length, getD};
+ghost use lib.ListN.{length};
 ghost use Rattle.closure.specs.Closed.{Closed, TiedAt};
 ghost use Rattle.closure.specs.Table.{reach};
 ghost use Rattle.table.specs.Cells.{stride, cells, cell};
+ghost use Rattle.order.specs.First.{marked};
 ghost use Rattle.sheet.specs.Decode.{Sized, sheetOf};
 ghost use Rattle.sheet.specs.Says.{biasedSays, termSays, entrySays};
-ghost use Rattle.sheet.specs.Sheet.{ArgumentsBelow, WellFormed, countEntries, entryAt, apply, apply2};
+ghost use Rattle.sheet.specs.Sheet.{ArgumentsBelow, WellFormed, countEntries, apply, apply2};
 ghost use Rattle.values.specs.Settled.{points};
-ghost use Rattle.ties.specs.Ties.{Decides, Joined, Broken, Checked};
-
+ghost use Rattle.ties.specs.Ties.{Decides, isApplication, Joined, Broken, BrokenAt, Checked};
 use gap::Gap;
 use sheet::Biased;
 use sheet::Entry;
@@ -22,6 +22,18 @@ use sheet::Relation;
 use sheet::Symbol;
 use sheet::Term;
 use sheet::TermNumber;
+
+pub fn is_application(t: Term) -> bool
+    ensures { λ r. ⌜ r ≡ isApplication (termSays t) ⌝ }
+{
+    match t {
+        Term::Unknown => false,
+        Term::Number(c) => false,
+        Term::Shift(a, c) => false,
+        Term::Apply(f, a) => true,
+        Term::Apply2(f, a, b) => true,
+    }
+}
 
 // Whether two terms are applications of the same kind and symbol whose arguments are tied at 0.
 pub fn same_input(d: &[u32], n: usize, t: Term, u: Term) -> bool
@@ -89,7 +101,7 @@ pub fn apart(sheet: &[u8], set: &[bool], d: &[u32]) -> bool
     requires { ⌜ Sized (now sheet) × WellFormed (sheetOf (now sheet)) ⌝ }
     requires { ⌜ (countEntries (sheetOf (now sheet)) ≤ length (now set)) × (length (now d) ≡ cells) ⌝ }
     requires { ⌜ Closed (points (sheetOf (now sheet))) (reach (points (sheetOf (now sheet)))) (cell (now d)) ⌝ }
-    ensures { λ r. ⌜ Checked (sheetOf (now (sheet .entry))) (λ e. getD (now (set .entry)) e false) (cell (now (d .entry))) r ⌝ }
+    ensures { λ r. ⌜ Checked (sheetOf (now (sheet .entry))) (marked (now (set .entry))) (cell (now (d .entry))) r ⌝ }
 {
     let l = sheet::count_entries(sheet);
     let mut e = 0;
@@ -106,7 +118,7 @@ fn broken_at(sheet: &[u8], set: &[bool], d: &[u32], e: EntryNumber) -> bool
     requires { ⌜ Sized (now sheet) × WellFormed (sheetOf (now sheet)) ⌝ }
     requires { ⌜ (e .0 < countEntries (sheetOf (now sheet))) × (e .0 < length (now set)) × (length (now d) ≡ cells) ⌝ }
     requires { ⌜ Closed (points (sheetOf (now sheet))) (reach (points (sheetOf (now sheet)))) (cell (now d)) ⌝ }
-    ensures { λ r. ⌜ Decides ((getD (now (set .entry)) (e .0) false ≡ true) × Broken (cell (now (d .entry))) (entryAt (sheetOf (now (sheet .entry))) (e .0))) r ⌝ }
+    ensures { λ r. ⌜ Decides (BrokenAt (sheetOf (now (sheet .entry))) (marked (now (set .entry))) (cell (now (d .entry))) (e .0)) r ⌝ }
 {
     if !set[e.0 as usize] {
         return false;

@@ -20,7 +20,8 @@ pub fn write(sheet: &[u8], d: &[u32], room: &mut [u8]) -> usize
     requires { ⌜ Sized (now sheet) × WellFormed (sheetOf (now sheet)) ⌝ }
     requires { ⌜ (length (now d) ≡ cells) × (recordLength (sheetOf (now sheet)) ≤ length (now room)) ⌝ }
     requires { ⌜ Closed (points (sheetOf (now sheet))) (reach (points (sheetOf (now sheet)))) (cell (now d)) ⌝ }
-    ensures { λ r. ⌜ (r ≡ recordLength (sheetOf (now (sheet .entry)))) × Written (sheetOf (now (sheet .entry))) (cell (now (d .entry))) (now (room .entry)) (now (room .exit)) ⌝ }
+    ensures length { λ r. ⌜ r ≡ recordLength (sheetOf (now (sheet .entry))) ⌝ }
+    ensures record { λ _. ⌜ Written (sheetOf (now (sheet .entry))) (cell (now (d .entry))) (now (room .entry)) (now (room .exit)) ⌝ }
 {
     let terms = sheet::count_terms(sheet);
     let n = terms + 1;

@@ -1,7 +1,7 @@
 -- One pair of terms: the three answers of a pass over it, and that a table in which no pair is left to tie is saturated.
 -- Assumes nothing.
 use Prim.Native.Nat.{ℕ, _+_, _≤_, _<_}
-use mathlib.Core.Path.{_≡_, sym, _∙_}
+use mathlib.Core.Path.{_≡_, sym, _∙_, ap}
 use mathlib.Core.Bool.{Bool, true, false}
 use mathlib.Core.Logic.{⊎-elim}
 use mathlib.Core.List.{List}
@@ -11,6 +11,7 @@ use native.Mathlib.Omega.{arith}
 use Rattle.whole.proofs.Order.{order}
 use Rattle.closure.specs.Closed.{Closed, TiedAt}
 use Rattle.closure.specs.Table.{reach}
+use Rattle.closure.proofs.Ties.{differ}
 use Rattle.table.specs.Cells.{cell}
 use Rattle.sheet.specs.Sheet.{Term, Sheet, countTerms, termAt, ArgumentsBelow, of-unknown, of-number, of-shift, of-apply, of-apply2, WellFormed}
 use Rattle.meaning.specs.Meaning.{one, two}
@@ -20,9 +21,9 @@ use Rattle.values.specs.Settled.{points, Saturated}
 use Rattle.values.proofs.Held.{tied-met}
 use Rattle.bounds.specs.Step.{Met, Stepped}
 use Rattle.bounds.specs.True.{TieTrue}
-use Rattle.ties.specs.Ties.{Decides, Joined}
+use Rattle.ties.specs.Ties.{Decides, isApplication, Joined}
 use Rattle.verdict.specs.declared.Passed.the-variants.{Clash, New, Still}
-use Rattle.verdict.specs.Passing.{FunctionsTrue, PairTied, EachTied, Passing, clash, tied, still}
+use Rattle.verdict.specs.Passing.{FunctionsTrue, PairTied, RowTied, AllTied, Passing, clash, tied, still}
 use Rattle.verdict.proofs.Total.{falls}
 
 module _ (s : Sheet) (W : WellFormed s) (i j : ℕ) (i< : i < countTerms s) (j< : j < i) (old : List ℕ) where
@@ -61,6 +62,15 @@ module _ (s : Sheet) (W : WellFormed s) (i j : ℕ) (i< : i < countTerms s) (j< 
             tied (record { table = G .table; tighter = G .tighter; met = λ D v D> M F. G .met D v D> M (asked D v M F); there = tt }) (put .kept)
             (falls (points s) (cell old) (cell new) (G .tighter) i j (omega arith) (omega arith) not (G .there))
 
+-- a term that is no application has the same input as none
+no-input : {d : ℕ → ℕ → ℕ} {t u : Term} → isApplication t ≡ false → Joined d t u → ⊥
+no-input e (one p) = differ e
+no-input e (two p q) = differ e
+
+pub no-application : {s : Sheet} {i : ℕ} {old : List ℕ} {t : Term} {r : Bool} → t ≡ termAt s i → r ≡ isApplication t → r ≡ false
+    → Passing s (RowTied s i) old old Still
+no-application e f g = still (record { each = λ j l. record { tied = λ J. absurd (no-input (ap isApplication (sym e) ∙ sym f ∙ g) J) } })
+
 -- arguments below i are below what i is
 pub arguments : {i n : ℕ} {t : Term} → i ≤ n → ArgumentsBelow i t → ArgumentsBelow n t
 arguments l of-unknown = of-unknown
@@ -78,7 +88,7 @@ joined-back (one p) = one (back p)
 joined-back (two p q) = two (back p) (back q)
 
 pub saturated : (s : Sheet) (d : ℕ → ℕ → ℕ) → Closed (points s) (reach (points s)) d
-    → EachTied (λ i. EachTied (PairTied s i) i) (countTerms s) d → Saturated s d
+    → AllTied s d → Saturated s d
 saturated s d C E i j i< j< J =
     ⊎-elim
     (λ p. ⊎-elim (λ e. own e) (λ l. back (E .each j j< .each i l .tied (joined-back J))) (eq-or-lt-of-le {n = i} {m = j} p))

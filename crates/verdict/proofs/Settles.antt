@@ -8,19 +8,19 @@ use native.Mathlib.Omega.{arith}
 use Rattle.closure.specs.Table.{Table}
 use Rattle.closure.proofs.Ties.{differ}
 use Rattle.table.specs.Cells.{cell}
-use Rattle.sheet.specs.Sheet.{Sheet, countTerms}
+use Rattle.sheet.specs.Sheet.{Sheet}
 use Rattle.values.specs.Settled.{points, Saturated}
 use Rattle.bounds.specs.Step.{Stepped}
 use Rattle.bounds.proofs.Steps.{arrived, stayed}
 use Rattle.verdict.specs.declared.Passed.{Passed}
-use Rattle.verdict.specs.Passing.{FunctionsTrue, PairTied, EachTied, total, Passing, clash, tied, still, isClash, isNew}
+use Rattle.verdict.specs.Passing.{FunctionsTrue, AllTied, total, Passing, clash, tied, still, isClash, isNew}
 use Rattle.verdict.proofs.Passes.{kept-on, Passes, on}
 use Rattle.verdict.proofs.Pairs.{saturated}
 
 module _ (s : Sheet) where
   -- a pass over all pairs of terms
   abbrev Pass : List ℕ → List ℕ → Passed → Type 0
-  Pass = Passing s (EachTied (λ i. EachTied (PairTied s i) i) (countTerms s))
+  Pass = Passing s (AllTied s)
 
   -- after some passes: going on, or the last one found nothing new
   pub data Settling (old d : List ℕ) : Bool → Type 0 where

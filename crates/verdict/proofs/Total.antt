@@ -20,7 +20,7 @@ module _ (n : ℕ) (d e : ℕ → ℕ → ℕ) (tighter : (i j : ℕ) → i < n 
       omega (
         arith,
         sum-lt n 0 0 i (λ k. sumTo n (λ j. e k j)) (λ k. sumTo n (λ j. d k j)) i< row
-        (omega (arith, sum-lt n 0 0 j (λ k. e i k) (λ k. d i k) j< (λ k k<. omega (arith, tighter i k i< k<)) (omega arith))),
+            (omega (arith, sum-lt n 0 0 j (λ k. e i k) (λ k. d i k) j< (λ k k<. omega (arith, tighter i k i< k<)) (omega arith))),
       )
 
   -- a tie is new where one of its two cells is tighter than it was

@@ -10,8 +10,8 @@ use Rattle.levels.specs.Level.{sumTo}
 use Rattle.table.specs.Cells.{cell, Kept}
 use Rattle.sheet.specs.Sheet.{Sheet, countTerms, termAt}
 use Rattle.meaning.specs.Meaning.{SameInput}
-use Rattle.values.specs.Settled.{points}
-use Rattle.bounds.specs.Step.{Went, Refuted}
+use Rattle.values.specs.Settled.{points, Saturated}
+use Rattle.bounds.specs.Step.{Went, Refuted, Stepped}
 use Rattle.ties.specs.Ties.{Joined}
 use Rattle.verdict.specs.declared.Passed.{Passed}
 use Rattle.verdict.specs.declared.Passed.the-variants.{Clash, New, Still}
@@ -28,6 +28,13 @@ pub record PairTied (s : Sheet) (i j : ℕ) (d : ℕ → ℕ → ℕ) : Type 0 w
 pub record EachTied (P : ℕ → (ℕ → ℕ → ℕ) → Type 0) (m : ℕ) (d : ℕ → ℕ → ℕ) : Type 0 where
   pub each : (k : ℕ) → k < m → P k d
 
+-- in row i each pair is, and in the table each row
+abbrev pub RowTied : Sheet → ℕ → (ℕ → ℕ → ℕ) → Type 0
+RowTied s i = EachTied (PairTied s i) i
+
+abbrev pub AllTied : Sheet → (ℕ → ℕ → ℕ) → Type 0
+AllTied s = EachTied (RowTied s) (countTerms s)
+
 -- the sum of all cells: it falls with each tie that is new
 unfoldable pub total : ℕ → (ℕ → ℕ → ℕ) → ℕ
 total n d = sumTo n (λ i. sumTo n (λ j. d i j))
@@ -38,6 +45,10 @@ pub data Passing (s : Sheet) (P : (ℕ → ℕ → ℕ) → Type 0) (old : List 
   tied : {new : List ℕ} → Went (points s) (FunctionsTrue s) (λ d. Unit) old new → Kept (points s) old new
       → total (points s) (cell new) < total (points s) (cell old) → Passing s P old new New
   still : P (cell old) → Passing s P old old Still
+
+-- the step that passes all equalities on
+abbrev pub FunctionsPut : Sheet → List ℕ → List ℕ → Bool → Type 0
+FunctionsPut s = Stepped (points s) (FunctionsTrue s) (Saturated s)
 
 -- what a loop keeps of its passes, and what it answers in the end
 abbrev pub isClash : Passed → Bool

@@ -4,16 +4,15 @@
 ghost use mathlib.Core.Path.{_≡_};
 ghost use mathlib.Core.Bool.{false};
 ghost use Prim.Native.Nat.{_≤_, _<_};
-ghost use lib.ListN.{length, getD};
+ghost use lib.ListN.{length};
 ghost use Rattle.closure.specs.Table.{Table};
 ghost use Rattle.table.specs.Cells.{cells, cell, Kept};
+ghost use Rattle.order.specs.First.{marked};
 ghost use Rattle.sheet.specs.Decode.{Sized, sheetOf};
 ghost use Rattle.sheet.specs.Sheet.{WellFormed, countTerms, countEntries};
-ghost use Rattle.values.specs.Settled.{points, Saturated};
-ghost use Rattle.bounds.specs.Step.{Stepped};
+ghost use Rattle.values.specs.Settled.{points};
 ghost use Rattle.verdict.specs.Judged.{Judged};
-ghost use Rattle.verdict.specs.Passing.{FunctionsTrue, PairTied, EachTied, Passing, isClash, isNew, passedOf};
-
+ghost use Rattle.verdict.specs.Passing.{PairTied, RowTied, AllTied, Passing, FunctionsPut, isClash, isNew, passedOf};
 use sheet::Biased;
 use sheet::TermNumber;
 
@@ -32,7 +31,8 @@ enum Passed {
 pub fn on(sheet: &[u8], set: &[bool], d: &mut [u32]) -> Verdict
     requires { ⌜ Sized (now sheet) × WellFormed (sheetOf (now sheet)) ⌝ }
     requires { ⌜ (countEntries (sheetOf (now sheet)) ≤ length (now set)) × (length (now d) ≡ cells) ⌝ }
-    ensures { λ r. ⌜ Judged (sheetOf (now (sheet .entry))) (λ e. getD (now (set .entry)) e false) (cell (now (d .exit))) r × Kept (points (sheetOf (now (sheet .entry)))) (now (d .entry)) (now (d .exit)) ⌝ }
+    ensures judged { λ r. ⌜ Judged (sheetOf (now (sheet .entry))) (marked (now (set .entry))) (cell (now (d .exit))) r ⌝ }
+    ensures kept { λ _. ⌜ Kept (points (sheetOf (now (sheet .entry)))) (now (d .entry)) (now (d .exit)) ⌝ }
 {
     table::start(d, sheet::count_terms(sheet) + 1);
     if !bounds::put_terms(sheet, d) {
@@ -54,7 +54,7 @@ pub fn on(sheet: &[u8], set: &[bool], d: &mut [u32]) -> Verdict
 fn settle(sheet: &[u8], d: &mut [u32]) -> bool
     requires { ⌜ Sized (now sheet) × WellFormed (sheetOf (now sheet)) ⌝ }
     requires { ⌜ (length (now d) ≡ cells) × Table (points (sheetOf (now sheet))) (cell (now d)) ⌝ }
-    ensures { λ r. ⌜ Stepped (points (sheetOf (now (sheet .entry)))) (FunctionsTrue (sheetOf (now (sheet .entry)))) (Saturated (sheetOf (now (sheet .entry)))) (now (d .entry)) (now (d .exit)) r ⌝ }
+    ensures { λ r. ⌜ FunctionsPut (sheetOf (now (sheet .entry))) (now (d .entry)) (now (d .exit)) r ⌝ }
 {
     let mut going = true;
     while going {
@@ -71,7 +71,7 @@ fn settle(sheet: &[u8], d: &mut [u32]) -> bool
 fn pass(sheet: &[u8], d: &mut [u32]) -> Passed
     requires { ⌜ Sized (now sheet) × WellFormed (sheetOf (now sheet)) ⌝ }
     requires { ⌜ (length (now d) ≡ cells) × Table (points (sheetOf (now sheet))) (cell (now d)) ⌝ }
-    ensures { λ r. ⌜ Passing (sheetOf (now (sheet .entry))) (EachTied (λ i. EachTied (PairTied (sheetOf (now (sheet .entry))) i) i) (countTerms (sheetOf (now (sheet .entry))))) (now (d .entry)) (now (d .exit)) r ⌝ }
+    ensures { λ r. ⌜ Passing (sheetOf (now (sheet .entry))) (AllTied (sheetOf (now (sheet .entry)))) (now (d .entry)) (now (d .exit)) r ⌝ }
 {
     let t = sheet::count_terms(sheet);
     let mut fresh = false;
@@ -91,8 +91,11 @@ fn pass(sheet: &[u8], d: &mut [u32]) -> Passed
 fn pass_row(sheet: &[u8], d: &mut [u32], i: usize) -> Passed
     requires { ⌜ Sized (now sheet) × WellFormed (sheetOf (now sheet)) × (i < countTerms (sheetOf (now sheet))) ⌝ }
     requires { ⌜ (length (now d) ≡ cells) × Table (points (sheetOf (now sheet))) (cell (now d)) ⌝ }
-    ensures { λ r. ⌜ Passing (sheetOf (now (sheet .entry))) (EachTied (PairTied (sheetOf (now (sheet .entry))) i) i) (now (d .entry)) (now (d .exit)) r ⌝ }
+    ensures { λ r. ⌜ Passing (sheetOf (now (sheet .entry))) (RowTied (sheetOf (now (sheet .entry))) i) (now (d .entry)) (now (d .exit)) r ⌝ }
 {
+    if !ties::is_application(sheet::term_at(sheet, TermNumber(i as u8))) {
+        return Passed::Still;
+    }
     let mut fresh = false;
     let mut j = 0;
     while j < i {

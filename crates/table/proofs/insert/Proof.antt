@@ -26,8 +26,9 @@ asked p = record { size = p .0; bound = p .1 .0; table = p .1 .1 }
 
 returns : tie.Need-returns Inv-loop μ-loop
 returns c =
-    let start = c .before .before .before .before .before .before in
-    inserted-held _ _ _ _ _ (asked (start .pre)) (rw (c .before .before .before .gap-at .ensures) at (c .if1 .taken))
+    let read = c .before .before .before in
+    let start = read .before .before .before in
+    inserted-held _ _ _ _ _ (asked (start .pre)) (rw (read .gap-at .ensures) at (c .if1 .taken))
 
 sum-requires : tie.Need-sum-requires Inv-loop μ-loop
 sum-requires c κs =
@@ -36,51 +37,61 @@ sum-requires c κs =
 
 returns-2 : tie.Need-returns-2 Inv-loop μ-loop
 returns-2 c =
-    let start = c .before .before .before .before .before .before .before .before .before .before .before .before in
-    inserted-not _ _ _ _ _ (asked (start .pre)) (rw (c .before .before .before .sum .ensures .0, c .before .before .before .before .gap-at2 .ensures) at (c .if2 .taken))
+    let added = c .before .before .before in
+    let read = added .before in
+    let start = read .before .before .before .before .before .before .before .before in
+    inserted-not _ _ _ _ _ (asked (start .pre)) (rw (added .sum .ensures .0, read .gap-at2 .ensures) at (c .if2 .taken))
 
 loop-holds : tie.Need-loop-holds Inv-loop μ-loop
 loop-holds c = (omega arith, omega arith, refl, none-yet _ _ _ _ _)
 
 sum-requires-2 : tie.Need-sum-requires-2 Inv-loop μ-loop
 sum-requires-2 c κs =
-    let loop = c .before .before .before .loop in
-    let start = c .before .before .before .before .before .before .before .before .before .before .before .before .before .before .before .before .before .before in
-    rw (c .gap-at3 .ensures) (first (start .args .n) _ _ _ _ (asked (start .pre)) (loop .d) (loop .i) (omega arith) (loop .inv .3))
+    let turn = c .before .before .before in
+    let start = turn .before .before .before .before .before .before .before .before .before .before .before .before .before .before .before in
+    rw (c .gap-at3 .ensures) (first (start .args .n) _ _ _ _ (asked (start .pre)) (turn .loop .d) (turn .loop .i) (omega arith) (turn .loop .inv .3))
 
 relax-row-requires : tie.Need-relax-row-requires Inv-loop μ-loop
 relax-row-requires c κs =
-    let via = c .before .before .sum2 .ensures .0 ∙ ap (λ (x : ℕ). sumOf x (c .before .before .before .before .before .before .before .before .before .before .before .before .before .before .before .before .before .before .before .before .before .args .g .0)) (c .before .before .before .gap-at3 .ensures) in
-    let row = c .before .before .before .before .before .before .before .row-of in
-    let loop = c .before .before .before .before .before .before .loop in
-    let start = c .before .before .before .before .before .before .before .before .before .before .before .before .before .before .before .before .before .before .before .before .before in
-    let A : Asked _ _ _ _ _ = asked (start .pre) in (
+    let added = c .before .before in
+    let read = added .before in
+    let turn = read .before .before .before in
+    let copied = turn .before in
+    let start = copied .before .before .before .before .before .before .before .before .before .before .before .before .before .before in
+    let via = added .sum2 .ensures .0 ∙ ap (λ (x : ℕ). sumOf x (start .args .g .0)) (read .gap-at3 .ensures) in
+    let row = copied .row-of in (
       omega arith,
       (
-        second _ _ _ _ _ A (loop .d) (loop .i) (omega arith) (loop .inv .3) (row .result) _ via (row .ensures),
-        skipped _ _ _ _ _ A (loop .d) (loop .i) (omega arith) (loop .inv .3) (row .result) _ via (row .ensures),
+        second _ _ _ _ _ (asked (start .pre)) (turn .loop .d) (turn .loop .i) (omega arith) (turn .loop .inv .3) (row .result) _ via (row .ensures),
+        skipped _ _ _ _ _ (asked (start .pre)) (turn .loop .d) (turn .loop .i) (omega arith) (turn .loop .inv .3) (row .result) _ via (row .ensures),
       ),
     )
 
 loop-again : tie.Need-loop-again Inv-loop μ-loop
 loop-again c =
-    let called = c .before .before .relax-row in
-    let via = c .before .before .before .before .before .sum2 .ensures .0 ∙ ap (λ (x : ℕ). sumOf x (c .before .before .before .before .before .before .before .before .before .before .before .before .before .before .before .before .before .before .before .before .before .before .before .before .args .g .0)) (c .before .before .before .before .before .before .gap-at3 .ensures) in
-    let row = c .before .before .before .before .before .before .before .before .before .before .row-of in
-    let loop = c .before .before .before .before .before .before .before .before .before .loop in
-    let start = c .before .before .before .before .before .before .before .before .before .before .before .before .before .before .before .before .before .before .before .before .before .before .before .before in (
+    let called = c .before .before in
+    let added = called .before .before .before in
+    let read = added .before in
+    let turn = read .before .before .before in
+    let copied = turn .before in
+    let start = copied .before .before .before .before .before .before .before .before .before .before .before .before .before .before in
+    let via = added .sum2 .ensures .0 ∙ ap (λ (x : ℕ). sumOf x (start .args .g .0)) (read .gap-at3 .ensures) in
+    let row = copied .row-of in (
       omega arith,
-      loop .inv .1,
-      omega (arith, called .kept .0),
-      more _ _ _ _ _ (asked (start .pre)) (loop .d) (loop .i) (omega arith) (loop .inv .3) (row .result) _ via (row .ensures) _ (called .ensures),
+      turn .loop .inv .1,
+      omega (arith, called .relax-row .kept .0),
+      more _ _ _ _ _ (asked (start .pre)) (turn .loop .d) (turn .loop .i) (omega arith) (turn .loop .inv .3) (row .result) _ via (row .ensures) _ (called .relax-row .ensures),
     )
 
 returns-3 : tie.Need-returns-3 Inv-loop μ-loop
 returns-3 c =
-    let loop = c .before .loop in
-    let start = c .before .before .before .before .before .before .before .before .before .before .before .before .before .before .before .before in
-    let end : loop .i ≡ start .args .n = omega arith in
-    inserted _ _ _ _ _ (asked (start .pre)) _ (rw (c .before .before .before .before .before .before .before .sum .ensures .0, c .before .before .before .before .before .before .before .before .gap-at2 .ensures) at (c .before .before .before .before .if2 .left)) (rw end at (loop .inv .3))
+    let turn = c .before in
+    let tested = turn .before .before .before in
+    let added = tested .before .before .before in
+    let read = added .before in
+    let start = read .before .before .before .before .before .before .before .before in
+    let end : turn .loop .i ≡ start .args .n = omega arith in
+    inserted _ _ _ _ _ (asked (start .pre)) _ (rw (added .sum .ensures .0, read .gap-at2 .ensures) at (tested .if2 .left)) (rw end at (turn .loop .inv .3))
 
 pub insert-spec : {M : Type 1} → statement M
 insert-spec =

@@ -51,12 +51,11 @@ all old d n h R =
     }
 
 loop-holds : tie.Need-loop-holds Inv-loop μ-loop
-loop-holds c =
-    (
-      omega arith,
-      refl,
-      record { same = λ k l. absurd (omega arith); apart = λ k l j p ne. absurd (omega arith); right = λ k j p q. refl; below = λ k p. refl },
-    )
+loop-holds c = (
+  omega arith,
+  refl,
+  record { same = λ k l. absurd (omega arith); apart = λ k l j p ne. absurd (omega arith); right = λ k j p q. refl; below = λ k p. refl },
+)
 
 loop-again : tie.Need-loop-again Inv-loop μ-loop
 loop-again c =

@@ -3,73 +3,116 @@
 use native.Mathlib.Omega.{arith}
 use borrow.Author.Needs.{needs}
 use borrow.Author.Tests.{not-true, not-false}
-use Rattle.verdict.proofs.Final.{with-terms, with-entries, with-functions, refused, broken, settled}
+use Rattle.verdict.proofs.Final.{with-terms, with-entries, with-functions, refused, broken, settled as holding}
 use Rattle.verdict.proofs.on.Statement.{statement}
 use Rattle.verdict.proofs.on.Tie as tie
 
 start-requires : tie.Need-start-requires
-start-requires c κs = (omega arith, omega (arith, c .before .before .before .before .before .pre .0 .1 .terms))
+start-requires c κs =
+    let start = c .before .before .before .before .before in
+    (omega arith, omega (arith, start .pre .0 .1 .terms))
 
 put-terms-requires : tie.Need-put-terms-requires
 put-terms-requires c κs =
-    let start = c .before .before .before .before .before .before .before .before .before in
-    (start .pre .0, (omega arith, rw (c .before .before .before .before .count-terms .ensures .0) at (c .before .before .before .start .ensures .table)))
+    let started = c .before .before .before in
+    let counted = started .before in
+    let start = counted .before .before .before .before .before in
+    (start .pre .0, (omega arith, rw (counted .count-terms .ensures .0) at (started .start .ensures .table)))
 
 returns : tie.Need-returns
 returns c =
-    let start = c .before .before .before .before .before .before .before .before .before .before .before .before .before in
-    let A = with-terms _ _ (start .pre .0 .1) (c .before .before .before .put-terms .ensures) in
-    refused _ _ (start .pre .0 .1) (c .before .before .before .before .before .before .before .before .count-terms .ensures .0) (c .before .before .before .before .before .before .before .start .ensures) A (not-true _ (c .if1 .taken))
+    let terms = c .before .before .before in
+    let started = terms .before .before .before .before in
+    let counted = started .before in
+    let start = counted .before .before .before .before .before in
+    let wf = start .pre .0 .1 in
+    let A = with-terms _ _ wf (terms .put-terms .ensures) in
+    refused _ _ wf (counted .count-terms .ensures .0) (started .start .ensures) A (not-true _ (c .if1 .taken))
 
 put-entries-requires : tie.Need-put-entries-requires
 put-entries-requires c κs =
-    let start = c .before .before .before .before .before .before .before .before .before .before .before .before .before .before in
-    (start .pre .0, (start .pre .1 .0, (omega arith, c .before .before .before .before .put-terms .ensures .went (not-false _ (c .before .if1 .left)) .table)))
+    let terms-in = c .before in
+    let terms = terms-in .before .before .before in
+    let start = terms .before .before .before .before .before .before .before .before .before .before in
+    (start .pre .0, (start .pre .1 .0, (omega arith, terms .put-terms .ensures .went (not-false _ (terms-in .if1 .left)) .table)))
 
 returns-2 : tie.Need-returns-2
 returns-2 c =
-    let start = c .before .before .before .before .before .before .before .before .before .before .before .before .before .before .before .before .before .before in
+    let entries = c .before .before .before in
+    let terms-in = entries .before .before in
+    let terms = terms-in .before .before .before in
+    let started = terms .before .before .before .before in
+    let counted = started .before in
+    let start = counted .before .before .before .before .before in
     let wf = start .pre .0 .1 in
-    let A = with-terms _ _ wf (c .before .before .before .before .before .before .before .before .put-terms .ensures) in
-    let B = with-entries _ _ wf (not-false _ (c .before .before .before .before .before .if1 .left)) A (c .before .before .before .put-entries .ensures) in
-    refused _ _ wf (c .before .before .before .before .before .before .before .before .before .before .before .before .before .count-terms .ensures .0) (c .before .before .before .before .before .before .before .before .before .before .before .before .start .ensures) B (not-true _ (c .if2 .taken))
+    let A = with-terms _ _ wf (terms .put-terms .ensures) in
+    let B = with-entries _ _ wf (not-false _ (terms-in .if1 .left)) A (entries .put-entries .ensures) in
+    refused _ _ wf (counted .count-terms .ensures .0) (started .start .ensures) B (not-true _ (c .if2 .taken))
 
 settle-requires : tie.Need-settle-requires
 settle-requires c κs =
-    let start = c .before .before .before .before .before .before .before .before .before .before .before .before .before .before .before .before .before .before .before in
-    (start .pre .0, (omega arith, c .before .before .before .before .put-entries .ensures .went (not-false _ (c .before .if2 .left)) .table))
+    let entries-in = c .before in
+    let entries = entries-in .before .before .before in
+    let start = entries .before .before .before .before .before .before .before .before .before .before .before .before .before .before .before in
+    (start .pre .0, (omega arith, entries .put-entries .ensures .went (not-false _ (entries-in .if2 .left)) .table))
 
 returns-3 : tie.Need-returns-3
 returns-3 c =
-    let start = c .before .before .before .before .before .before .before .before .before .before .before .before .before .before .before .before .before .before .before .before .before .before .before in
+    let settled = c .before .before .before in
+    let entries-in = settled .before .before in
+    let entries = entries-in .before .before .before in
+    let terms-in = entries .before .before in
+    let terms = terms-in .before .before .before in
+    let started = terms .before .before .before .before in
+    let counted = started .before in
+    let start = counted .before .before .before .before .before in
     let wf = start .pre .0 .1 in
-    let A = with-terms _ _ wf (c .before .before .before .before .before .before .before .before .before .before .before .before .before .put-terms .ensures) in
-    let B = with-entries _ _ wf (not-false _ (c .before .before .before .before .before .before .before .before .before .before .if1 .left)) A (c .before .before .before .before .before .before .before .before .put-entries .ensures) in
-    let C = with-functions _ _ wf (not-false _ (c .before .before .before .before .before .if2 .left)) B (c .before .before .before .settle .ensures) in
-    refused _ _ wf (c .before .before .before .before .before .before .before .before .before .before .before .before .before .before .before .before .before .before .count-terms .ensures .0) (c .before .before .before .before .before .before .before .before .before .before .before .before .before .before .before .before .before .start .ensures) C (not-true _ (c .if3 .taken))
+    let A = with-terms _ _ wf (terms .put-terms .ensures) in
+    let B = with-entries _ _ wf (not-false _ (terms-in .if1 .left)) A (entries .put-entries .ensures) in
+    let C = with-functions _ _ wf (not-false _ (entries-in .if2 .left)) B (settled .settle .ensures) in
+    refused _ _ wf (counted .count-terms .ensures .0) (started .start .ensures) C (not-true _ (c .if3 .taken))
 
 apart-requires : tie.Need-apart-requires
 apart-requires c κs =
     let start = c .before .before .before .before .before .before .before .before .before .before .before .before .before .before .before .before .before .before .before .before .before .before .before .before in
-    (start .pre .0, ((start .pre .1 .0, omega arith), c .before .before .before .before .settle .ensures .went (not-false _ (c .before .if3 .left)) .table .closed))
+    let closed = c .before .before .before .before .settle .ensures .went (not-false _ (c .before .if3 .left)) .table .closed in
+    (start .pre .0, ((start .pre .1 .0, omega arith), closed))
 
 returns-4 : tie.Need-returns-4
 returns-4 c =
-    let start = c .before .before .before .before .before .before .before .before .before .before .before .before .before .before .before .before .before .before .before .before .before .before .before .before .before .before in
+    let called = c .before in
+    let settled-in = called .before .before in
+    let settled = settled-in .before .before .before in
+    let entries-in = settled .before .before in
+    let entries = entries-in .before .before .before in
+    let terms-in = entries .before .before in
+    let terms = terms-in .before .before .before in
+    let started = terms .before .before .before .before in
+    let counted = started .before in
+    let start = counted .before .before .before .before .before in
     let wf = start .pre .0 .1 in
-    let A = with-terms _ _ wf (c .before .before .before .before .before .before .before .before .before .before .before .before .before .before .before .before .put-terms .ensures) in
-    let B = with-entries _ _ wf (not-false _ (c .before .before .before .before .before .before .before .before .before .before .before .before .before .if1 .left)) A (c .before .before .before .before .before .before .before .before .before .before .before .put-entries .ensures) in
-    let C = with-functions _ _ wf (not-false _ (c .before .before .before .before .before .before .before .before .if2 .left)) B (c .before .before .before .before .before .before .settle .ensures) in
-    broken _ _ wf (c .before .before .before .before .before .before .before .before .before .before .before .before .before .before .before .before .before .before .before .before .before .count-terms .ensures .0) (c .before .before .before .before .before .before .before .before .before .before .before .before .before .before .before .before .before .before .before .before .start .ensures) C (not-false _ (c .before .before .before .if3 .left)) (c .before .apart .ensures) (not-true _ (c .if4 .taken))
+    let A = with-terms _ _ wf (terms .put-terms .ensures) in
+    let B = with-entries _ _ wf (not-false _ (terms-in .if1 .left)) A (entries .put-entries .ensures) in
+    let C = with-functions _ _ wf (not-false _ (entries-in .if2 .left)) B (settled .settle .ensures) in
+    broken _ _ wf (counted .count-terms .ensures .0) (started .start .ensures) C (not-false _ (settled-in .if3 .left)) (called .apart .ensures) (not-true _ (c .if4 .taken))
 
 returns-5 : tie.Need-returns-5
 returns-5 c =
-    let start = c .before .before .before .before .before .before .before .before .before .before .before .before .before .before .before .before .before .before .before .before .before .before .before .before .before .before in
+    let called = c .before in
+    let settled-in = called .before .before in
+    let settled = settled-in .before .before .before in
+    let entries-in = settled .before .before in
+    let entries = entries-in .before .before .before in
+    let terms-in = entries .before .before in
+    let terms = terms-in .before .before .before in
+    let started = terms .before .before .before .before in
+    let counted = started .before in
+    let start = counted .before .before .before .before .before in
     let wf = start .pre .0 .1 in
-    let A = with-terms _ _ wf (c .before .before .before .before .before .before .before .before .before .before .before .before .before .before .before .before .put-terms .ensures) in
-    let B = with-entries _ _ wf (not-false _ (c .before .before .before .before .before .before .before .before .before .before .before .before .before .if1 .left)) A (c .before .before .before .before .before .before .before .before .before .before .before .put-entries .ensures) in
-    let C = with-functions _ _ wf (not-false _ (c .before .before .before .before .before .before .before .before .if2 .left)) B (c .before .before .before .before .before .before .settle .ensures) in
-    settled _ _ wf (c .before .before .before .before .before .before .before .before .before .before .before .before .before .before .before .before .before .before .before .before .before .count-terms .ensures .0) (c .before .before .before .before .before .before .before .before .before .before .before .before .before .before .before .before .before .before .before .before .start .ensures) C (not-false _ (c .before .before .before .if3 .left)) (c .before .apart .ensures) (not-false _ (c .if4 .left))
+    let A = with-terms _ _ wf (terms .put-terms .ensures) in
+    let B = with-entries _ _ wf (not-false _ (terms-in .if1 .left)) A (entries .put-entries .ensures) in
+    let C = with-functions _ _ wf (not-false _ (entries-in .if2 .left)) B (settled .settle .ensures) in
+    holding _ _ wf (counted .count-terms .ensures .0) (started .start .ensures) C (not-false _ (settled-in .if3 .left)) (called .apart .ensures) (not-false _ (c .if4 .left))
 
 pub on-spec : {M : Type 1} → statement M
 on-spec =

@@ -10,54 +10,69 @@ use Rattle.verdict.proofs.pass_pair.Tie as tie
 
 same-input-requires : tie.Need-same-input-requires
 same-input-requires c κs =
-    let terms = c .before .before .before .count-terms .ensures .0 in
-    let start = c .before .before .before .before .before .before in
+    let second = c .before in
+    let first = second .before in
+    let counted = first .before in
+    let start = counted .before .before .before in
     let wf = start .pre .0 .1 in (
-      (start .pre .1 .0, omega (arith, wf .terms), rw terms (start .pre .1 .1 .closed)),
+      (start .pre .1 .0, omega (arith, wf .terms), rw (counted .count-terms .ensures .0) (start .pre .1 .1 .closed)),
       (
-        rw (c .before .before .term-at .ensures) (arguments (omega arith) (wf .arguments (start .args .i) (omega arith))),
-        rw (c .before .term-at2 .ensures) (arguments (omega arith) (wf .arguments (start .args .j) (omega arith))),
+        rw (first .term-at .ensures) (arguments (omega arith) (wf .arguments (start .args .i) (omega arith))),
+        rw (second .term-at2 .ensures) (arguments (omega arith) (wf .arguments (start .args .j) (omega arith))),
       ),
     )
 
 returns : tie.Need-returns
 returns c =
     let test = c .before in
-    let start = c .before .before .before .before .before .before .before .before in
-    not-joined _ (start .pre .0 .1) _ _ (start .pre .0 .2) (start .pre .0 .3) _ (test .before .before .before .term-at .ensures) (test .before .before .term-at2 .ensures)
-    (test .same-input .ensures) (not-true _ (c .if1 .taken))
+    let second = test .before .before in
+    let first = second .before in
+    let start = first .before .before .before .before in
+    not-joined _ (start .pre .0 .1) _ _ (start .pre .0 .2) (start .pre .0 .3) _ (first .term-at .ensures) (second .term-at2 .ensures) (test .same-input .ensures) (not-true _ (c .if1 .taken))
 
 tied-at-requires : tie.Need-tied-at-requires
 tied-at-requires c κs =
-    let terms = c .before .before .before .before .before .before .count-terms .ensures .0 in
-    let start = c .before .before .before .before .before .before .before .before .before in
-    ((start .pre .1 .0, omega (arith, start .pre .0 .1 .terms), rw terms (start .pre .1 .1 .closed)), (omega arith, omega arith))
+    let counted = c .before .before .before .before .before .before in
+    let start = counted .before .before .before in
+    ((start .pre .1 .0, omega (arith, start .pre .0 .1 .terms), rw (counted .count-terms .ensures .0) (start .pre .1 .1 .closed)), (omega arith, omega arith))
 
 returns-2 : tie.Need-returns-2
 returns-2 c = still (record { tied = λ q. c .before .tied-at .ensures .yes (c .if2 .taken) })
 
 put-tie-requires : tie.Need-put-tie-requires
 put-tie-requires c κs =
-    let terms = c .before .before .before .before .before .before .before .before .before .count-terms .ensures .0 in
-    let start = c .before .before .before .before .before .before .before .before .before .before .before .before in
-    ((start .pre .1 .0, omega (arith, start .pre .0 .1 .terms), omega arith, omega arith), rw terms (start .pre .1 .1))
+    let counted = c .before .before .before .before .before .before .before .before .before in
+    let start = counted .before .before .before in
+    ((start .pre .1 .0, omega (arith, start .pre .0 .1 .terms), omega arith, omega arith), rw (counted .count-terms .ensures .0) (start .pre .1 .1))
 
 returns-3 : tie.Need-returns-3
 returns-3 c =
-    let test = c .before .before .before .before .before .before .before .before .before in
-    let start = c .before .before .before .before .before .before .before .before .before .before .before .before .before .before .before .before in
-    refused _ (start .pre .0 .1) _ _ (start .pre .0 .2) (start .pre .0 .3) _
-    (test .before .before .before .term-at .ensures) (test .before .before .term-at2 .ensures) (test .same-input .ensures) (not-false _ (c .before .before .before .before .before .before .before .before .if1 .left))
-    (c .before .before .before .before .before .before .before .before .before .before .before .before .before .count-terms .ensures .0) (c .before .before .before .put-tie .ensures) (not-true _ (c .if3 .taken))
+    let put = c .before .before .before in
+    let untied = put .before .before in
+    let looked = untied .before in
+    let joined = looked .before .before in
+    let test = joined .before in
+    let second = test .before .before in
+    let first = second .before in
+    let counted = first .before in
+    let start = counted .before .before .before in
+    refused _ (start .pre .0 .1) _ _ (start .pre .0 .2) (start .pre .0 .3) _ (first .term-at .ensures) (second .term-at2 .ensures) (test .same-input .ensures)
+    (not-false _ (joined .if1 .left)) (counted .count-terms .ensures .0) (put .put-tie .ensures) (not-true _ (c .if3 .taken))
 
 returns-4 : tie.Need-returns-4
 returns-4 c =
-    let test = c .before .before .before .before .before .before .before .before .before in
-    let start = c .before .before .before .before .before .before .before .before .before .before .before .before .before .before .before .before in
-    tied-now _ (start .pre .0 .1) _ _ (start .pre .0 .2) (start .pre .0 .3) _
-    (test .before .before .before .term-at .ensures) (test .before .before .term-at2 .ensures) (test .same-input .ensures) (not-false _ (c .before .before .before .before .before .before .before .before .if1 .left))
-    (c .before .before .before .before .before .before .before .before .before .before .before .before .before .count-terms .ensures .0) (c .before .before .before .put-tie .ensures) (not-false _ (c .if3 .left))
-    (c .before .before .before .before .before .before .tied-at .ensures .no (c .before .before .before .before .before .if2 .left))
+    let put = c .before .before .before in
+    let untied = put .before .before in
+    let looked = untied .before in
+    let joined = looked .before .before in
+    let test = joined .before in
+    let second = test .before .before in
+    let first = second .before in
+    let counted = first .before in
+    let start = counted .before .before .before in
+    tied-now _ (start .pre .0 .1) _ _ (start .pre .0 .2) (start .pre .0 .3) _ (first .term-at .ensures) (second .term-at2 .ensures) (test .same-input .ensures)
+    (not-false _ (joined .if1 .left)) (counted .count-terms .ensures .0) (put .put-tie .ensures) (not-false _ (c .if3 .left))
+    (looked .tied-at .ensures .no (untied .if2 .left))
 
 pub pass-pair-spec : {M : Type 1} → statement M
 pass-pair-spec =

@@ -25,27 +25,32 @@ loop-holds c = (refl, begun _ (c .before .before .pre .1 .1))
 
 pass-requires : tie.Need-pass-requires Inv-loop μ-loop
 pass-requires c κs =
-    let loop = c .before .before .loop in
-    let start = c .before .before .before .before .before in
-    (start .pre .0, (omega arith, passed _ (loop .inv .1) .went refl .table))
+    let turn = c .before .before in
+    let start = turn .before .before .before in
+    (start .pre .0, (omega arith, passed _ (turn .loop .inv .1) .went refl .table))
 
 returns : tie.Need-returns Inv-loop μ-loop
 returns c =
-    let pass = c .before .before .before .before in
-    clashes _ (c .before .before .before .before .before .before .before .loop .inv .1) (pass .pass .ensures) (sym (c .before .is-clash .ensures) ∙ c .if1 .taken)
+    let told = c .before in
+    let called = told .before .before .before in
+    let turn = called .before .before .before in
+    clashes _ (turn .loop .inv .1) (called .pass .ensures) (sym (told .is-clash .ensures) ∙ c .if1 .taken)
 
 loop-less : tie.Need-loop-less Inv-loop μ-loop
 loop-less c =
-    let loop = c .before .before .before .before .before .before .before .before .loop in
-    rw (c .is-new .ensures)
-    (lower _ (c .before .before .before .before .before .pass .ensures) (sym (c .before .before .is-clash .ensures) ∙ c .before .if1 .left) (c .before .before .before .before .before .before .before .loop-test .taken))
+    let went-on = c .before in
+    let told = went-on .before in
+    let called = told .before .before .before in
+    let tested = called .before .before in
+    rw (c .is-new .ensures) (lower _ (called .pass .ensures) (sym (told .is-clash .ensures) ∙ went-on .if1 .left) (tested .loop-test .taken))
 
 loop-again : tie.Need-loop-again Inv-loop μ-loop
 loop-again c =
-    let loop = c .before .before .before .before .before .before .before .before .loop in (
-      omega arith,
-      rw (c .is-new .ensures) (goes-on _ (loop .inv .1) (c .before .before .before .before .before .pass .ensures) (sym (c .before .before .is-clash .ensures) ∙ c .before .if1 .left)),
-    )
+    let went-on = c .before in
+    let told = went-on .before in
+    let called = told .before .before .before in
+    let turn = called .before .before .before in
+    (omega arith, rw (c .is-new .ensures) (goes-on _ (turn .loop .inv .1) (called .pass .ensures) (sym (told .is-clash .ensures) ∙ went-on .if1 .left)))
 
 returns-2 : tie.Need-returns-2 Inv-loop μ-loop
 returns-2 c = ended _ (c .before .loop .inv .1) (c .loop-test .left)
