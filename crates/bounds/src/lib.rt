@@ -2,7 +2,6 @@
 // It rests on the table and the sheet's readers, and promises, for any levels: those that meet a part of the sheet meet the table with it
 // put in, and a part that can't be put in is met by none.
 ghost use mathlib.Core.Path.{_≡_};
-ghost use mathlib.Core.Bool.{false};
 ghost use Prim.Native.Nat.{_+_, _≤_, _<_};
 ghost use lib.ListN.{length};
 ghost use Rattle.closure.specs.Closed.{TiedAt};

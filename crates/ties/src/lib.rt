@@ -1,7 +1,6 @@
 // What a closed table says of a sheet's terms and ≠ entries: tied at c, the same input, an entry broken.
 // It rests on the table's look-up and the sheet's readers, and each test says what both of its answers show.
 ghost use mathlib.Core.Path.{_≡_};
-ghost use mathlib.Core.Bool.{true, false};
 ghost use Prim.Native.Nat.{_≤_, _<_};
 ghost use lib.IntN.{pos};
 ghost use lib.ListN.{length};

@@ -2,7 +2,7 @@
 // It rests on closed tables (closure, table) and on levels' theorem, and writes D and one n per term as the answer record.
 // It promises that these meet the sheet on every set of entries for which the table is settled (specs/Settled.antt, Written.antt).
 ghost use mathlib.Core.Path.{_≡_};
-ghost use Prim.Native.Nat.{ℕ, _+_, _*_, _^_, _≤_, _<_, min};
+ghost use Prim.Native.Nat.{ℕ, _*_, _^_, _≤_, _<_, min};
 ghost use lib.ListN.{length};
 ghost use Rattle.gap.specs.Code.{half, none};
 ghost use Rattle.closure.specs.Closed.{Closed};

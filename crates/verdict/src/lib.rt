@@ -2,7 +2,6 @@
 // It rests on the table and the bounds, and on the values for "holds". It answers "clashes" exactly when the meaning says so, and else
 // leaves a settled table, from which values can be read.
 ghost use mathlib.Core.Path.{_≡_};
-ghost use mathlib.Core.Bool.{false};
 ghost use Prim.Native.Nat.{_≤_, _<_};
 ghost use lib.ListN.{length};
 ghost use Rattle.closure.specs.Table.{Table};

@@ -33,25 +33,10 @@ loop-holds c = (omega arith, refl)
 mul-v : tie.Need-mul-v Inv-loop μ-loop
 mul-v c = omega (arith, room c)
 
-add-wide : tie.Need-add-wide Inv-loop μ-loop
-add-wide c = search needs
-
-shared-slice-read-wide : tie.Need-shared-slice-read-wide Inv-loop μ-loop
-shared-slice-read-wide c = search needs
-
-wide-requires : tie.Need-wide-requires Inv-loop μ-loop
-wide-requires c κs = search needs
-
 add-v : tie.Need-add-v Inv-loop μ-loop
 add-v c =
     let a = c .before .before .before in
     omega (arith, room (c .before .before), bytes a (a .before .before .args .at + a .loop .k))
-
-add-k : tie.Need-add-k Inv-loop μ-loop
-add-k c = search needs
-
-loop-less : tie.Need-loop-less Inv-loop μ-loop
-loop-less c = search needs
 
 loop-again : tie.Need-loop-again Inv-loop μ-loop
 loop-again c = (omega arith, rw (add-one, big-more) (omega arith))
@@ -64,16 +49,5 @@ returns c =
 pub read-spec : {M : Type 1} → statement M
 read-spec =
     tie.close
-    (tie.spec
-    Inv-loop
-    μ-loop
-    loop-holds
-    mul-v
-    add-wide
-    shared-slice-read-wide
-    wide-requires
-    add-v
-    add-k
-    loop-less
-    loop-again
-    returns)
+    (tie.spec Inv-loop μ-loop loop-holds mul-v (λ c. search needs) (λ c. search needs) (λ c κs. search needs) add-v
+    (λ c. search needs) (λ c. search needs) loop-again returns)

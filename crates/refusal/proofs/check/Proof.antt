@@ -7,12 +7,6 @@ use Rattle.refusal.proofs.Rows.{refused-already, row15, all-fine}
 use Rattle.refusal.proofs.check.Statement.{statement}
 use Rattle.refusal.proofs.check.Tie as tie
 
-check-sheet-requires : tie.Need-check-sheet-requires
-check-sheet-requires c κs = search needs
-
-enum-known-why : tie.Need-enum-known-why
-enum-known-why c = search needs
-
 enum-told : tie.Need-enum-told
 enum-told c = search needs
 
@@ -26,5 +20,4 @@ returns-3 : tie.Need-returns-3
 returns-3 c = all-fine _ _ (ap checkSays (sym (c .before .enum-told .given .1)) ∙ c .before .before .before .check-sheet .ensures) (c .if1 .left)
 
 pub check-spec : {M : Type 1} → statement M
-check-spec =
-    tie.close (tie.spec check-sheet-requires enum-known-why enum-told returns returns-2 returns-3)
+check-spec = tie.close (tie.spec (λ c κs. search needs) (λ c. search needs) enum-told returns returns-2 returns-3)

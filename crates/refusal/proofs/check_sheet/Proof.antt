@@ -32,9 +32,6 @@ not12 c = sym (c .before .wrong-shape .ensures) ∙ c .if3 .left
 sized : (c : tie.Else3) → Sized (now (c .before .before .before .before .before .before .before .args .sheet))
 sized c = shape-fine _ (not12 c) .sized
 
-wrong-length-requires : tie.Need-wrong-length-requires
-wrong-length-requires c κs = search needs
-
 returns : tie.Need-returns
 unfolding sheetRefusal
 returns c = rw (sym (c .before .wrong-length .ensures) ∙ c .if1 .taken)
@@ -90,17 +87,5 @@ returns-6 c =
 pub check-sheet-spec : {M : Type 1} → statement M
 check-sheet-spec =
     tie.close
-    (tie.spec
-    wrong-length-requires
-    returns
-    shared-slice-read-if2
-    returns-2
-    wrong-shape-requires
-    returns-3
-    lowest-wrong-requires
-    shared-slice-read-if4
-    returns-4
-    lowest-wrong-requires-2
-    shared-slice-read-if5
-    returns-5
-    returns-6)
+    (tie.spec (λ c κs. search needs) returns shared-slice-read-if2 returns-2 wrong-shape-requires returns-3 lowest-wrong-requires
+    shared-slice-read-if4 returns-4 lowest-wrong-requires-2 shared-slice-read-if5 returns-5 returns-6)

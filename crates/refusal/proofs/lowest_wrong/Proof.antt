@@ -18,25 +18,13 @@ Inv-loop sheet part count i₀ i = (i ≤ count) × (count ≡ countIn part shee
 abbrev μ-loop : tie.MeasureT-loop
 μ-loop sheet part count i₀ i = count - i
 
-count-in-requires : tie.Need-count-in-requires Inv-loop μ-loop
-count-in-requires c κs = search needs
-
 loop-holds : tie.Need-loop-holds Inv-loop μ-loop
 loop-holds c = (omega arith, c .count-in .ensures, omega (arith, c .count-in .ok), λ k l. absurd (omega arith))
-
-wrong-in-requires : tie.Need-wrong-in-requires Inv-loop μ-loop
-wrong-in-requires c κs = search needs
 
 returns : tie.Need-returns Inv-loop μ-loop
 returns c =
     let loop = c .before .before .before .loop in
     sym (lowest-found _ _ _ (omega arith) (loop .inv .3) (sym (c .before .wrong-in .ensures) ∙ c .if1 .taken))
-
-add-i : tie.Need-add-i Inv-loop μ-loop
-add-i c = search needs
-
-loop-less : tie.Need-loop-less Inv-loop μ-loop
-loop-less c = search needs
 
 loop-again : tie.Need-loop-again Inv-loop μ-loop
 loop-again c =
@@ -52,14 +40,5 @@ returns-2 c =
 pub lowest-wrong-spec : {M : Type 1} → statement M
 lowest-wrong-spec =
     tie.close
-    (tie.spec
-    Inv-loop
-    μ-loop
-    count-in-requires
-    loop-holds
-    wrong-in-requires
-    returns
-    add-i
-    loop-less
-    loop-again
-    returns-2)
+    (tie.spec Inv-loop μ-loop (λ c κs. search needs) loop-holds (λ c κs. search needs) returns (λ c. search needs) (λ c. search needs)
+    loop-again returns-2)

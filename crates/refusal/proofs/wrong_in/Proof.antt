@@ -10,9 +10,6 @@ enum-told c = search needs
 wrong-term-at-requires : tie.Need-wrong-term-at-requires
 wrong-term-at-requires c κs = rw (c .enum-told .given .1) at (c .before .before .before .pre)
 
-enum-told-2 : tie.Need-enum-told-2
-enum-told-2 c = search needs
-
 wrong-entry-at-requires : tie.Need-wrong-entry-at-requires
 wrong-entry-at-requires c κs = rw (c .enum-told2 .given .1) at (c .before .before .before .pre)
 
@@ -25,10 +22,4 @@ returns-2 c = rw (c .before .enum-told2 .given .1) (c .wrong-entry-at .ensures)
 pub wrong-in-spec : {M : Type 1} → statement M
 wrong-in-spec =
     tie.close
-    (tie.spec
-    enum-told
-    wrong-term-at-requires
-    enum-told-2
-    wrong-entry-at-requires
-    returns
-    returns-2)
+    (tie.spec enum-told wrong-term-at-requires (λ c. search needs) wrong-entry-at-requires returns returns-2)

@@ -10,12 +10,9 @@ returns : tie.Need-returns
 unfolding wrongLength
 returns c = rw (lt-ltb _ _ (c .if1 .taken))
 
-read-requires : tie.Need-read-requires
-read-requires c κs = search needs
-
 returns-2 : tie.Need-returns-2
 unfolding wrongLength
 returns-2 c = rw (le-ltb _ _ (c .before .if1 .left), c .read .ensures .0)
 
 pub wrong-length-spec : {M : Type 1} → statement M
-wrong-length-spec = tie.close (tie.spec returns read-requires returns-2)
+wrong-length-spec = tie.close (tie.spec returns (λ c κs. search needs) returns-2)

@@ -7,20 +7,11 @@ use Rattle.refusal.specs.Table.{wrongShape}
 use Rattle.refusal.proofs.wrong_shape.Statement.{statement}
 use Rattle.refusal.proofs.wrong_shape.Tie as tie
 
-shared-slice-read-terms : tie.Need-shared-slice-read-terms
-shared-slice-read-terms c = search needs
-
 cast-terms : tie.Need-cast-terms
 cast-terms c = omega (arith, c .shared-slice-known .given 3)
 
-shared-slice-read-entries : tie.Need-shared-slice-read-entries
-shared-slice-read-entries c = search needs
-
 cast-entries : tie.Need-cast-entries
 cast-entries c = omega (arith, c .shared-slice-known2 .given 4)
-
-shared-slice-read-result : tie.Need-shared-slice-read-result
-shared-slice-read-result c = search needs
 
 mul-result : tie.Need-mul-result
 mul-result c = omega (arith, c .shared-slice-known3 .given 3)
@@ -41,14 +32,5 @@ returns c = refl
 pub wrong-shape-spec : {M : Type 1} → statement M
 wrong-shape-spec =
     tie.close
-    (tie.spec
-    shared-slice-read-terms
-    cast-terms
-    shared-slice-read-entries
-    cast-entries
-    shared-slice-read-result
-    mul-result
-    add-result
-    mul-result-2
-    add-result-2
-    returns)
+    (tie.spec (λ c. search needs) cast-terms (λ c. search needs) cast-entries (λ c. search needs) mul-result add-result mul-result-2
+    add-result-2 returns)

@@ -6,9 +6,6 @@ use Rattle.big.proofs.Signed.{signed-biased-low, signed-biased-high}
 use Rattle.sheet.proofs.biased_of.Statement.{statement}
 use Rattle.sheet.proofs.biased_of.Tie as tie
 
-add-t4 : tie.Need-add-t4
-add-t4 c = search needs
-
 returns : tie.Need-returns
 returns c = signed-biased-low 2 32768 (c .before .args .c) refl (c .if1 .taken)
 
@@ -16,4 +13,4 @@ returns-2 : tie.Need-returns-2
 returns-2 c = signed-biased-high 2 32768 (c .before .args .c) refl (c .if1 .left)
 
 pub biased-of-spec : {M : Type 1} → statement M
-biased-of-spec = tie.close (tie.spec add-t4 returns returns-2)
+biased-of-spec = tie.close (tie.spec (λ c. search needs) returns returns-2)

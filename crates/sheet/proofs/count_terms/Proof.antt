@@ -7,9 +7,6 @@ use Rattle.sheet.proofs.Decode.{terms-stated}
 use Rattle.sheet.proofs.count_terms.Statement.{statement}
 use Rattle.sheet.proofs.count_terms.Tie as tie
 
-shared-slice-read-result : tie.Need-shared-slice-read-result
-shared-slice-read-result c = search needs
-
 cast-result : tie.Need-cast-result
 cast-result c = omega (arith, c .shared-slice-known .given 3)
 
@@ -17,4 +14,4 @@ returns : tie.Need-returns
 returns c = (sym (terms-stated _), omega (arith, c .shared-slice-known .given 3))
 
 pub count-terms-spec : {M : Type 1} → statement M
-count-terms-spec = tie.close (tie.spec shared-slice-read-result cast-result returns)
+count-terms-spec = tie.close (tie.spec (λ c. search needs) cast-result returns)

@@ -23,12 +23,6 @@ term-other f = go (f .kind)
     go (suc (suc (suc (suc zero)))) p q r s = absurd (s refl)
     go (suc (suc (suc (suc (suc k))))) p q r s = refl
 
-biased-of-requires : tie.Need-biased-of-requires
-biased-of-requires c κs = search needs
-
-biased-of-requires-2 : tie.Need-biased-of-requires-2
-biased-of-requires-2 c κs = search needs
-
 returns : tie.Need-returns
 unfolding decodeTerm
 returns c = rw (c .before .match .keys1, c .biased-of .ensures)
@@ -51,11 +45,4 @@ returns-5 c = let o = c .match .rest in sym (term-other _ (o .0 .0 .0 .1) (o .0 
 pub term-of-spec : {M : Type 1} → statement M
 term-of-spec =
     tie.close
-    (tie.spec
-    biased-of-requires
-    biased-of-requires-2
-    returns
-    returns-2
-    returns-3
-    returns-4
-    returns-5)
+    (tie.spec (λ c κs. search needs) (λ c κs. search needs) returns returns-2 returns-3 returns-4 returns-5)

@@ -6,20 +6,10 @@ use Rattle.gap.proofs.Kind.{with-kind, kind-whole}
 use Rattle.gap.proofs.Gap.whole.Statement.{statement}
 use Rattle.gap.proofs.Gap.whole.Tie as tie
 
-mul-t4 : tie.Need-mul-t4
-mul-t4 c = search needs
-
-add-t5 : tie.Need-add-t5
-add-t5 c = search needs
-
-mul-t6 : tie.Need-mul-t6
-mul-t6 c = search needs
-
-sub-t7 : tie.Need-sub-t7
-sub-t7 c = search needs
-
 returns : tie.Need-returns
 returns c = with-kind (omega arith) (kind-whole _ _ (omega arith) (omega arith))
 
 pub whole-spec : {M : Type 1} → statement M
-whole-spec = tie.close (tie.spec mul-t4 add-t5 mul-t6 sub-t7 returns)
+whole-spec =
+    tie.close
+    (tie.spec (λ c. search needs) (λ c. search needs) (λ c. search needs) (λ c. search needs) returns)
