@@ -9,7 +9,7 @@ use native.Mathlib.Decide.{decLt}
 use native.Mathlib.Omega.{arith}
 use borrow.Author.Count.{below-more}
 use Rattle.gap.specs.Code.{none, base, sumOf, tighterOf, Addable, Within}
-use Rattle.gap.proofs.Codes.{addable, sum-within, sum-mono}
+use Rattle.gap.proofs.Codes.{addable, sum-none-right, sum-within, sum-mono}
 use Rattle.closure.specs.Closed.{RelaxedBy}
 use Rattle.closure.specs.Table.{Table, step, reach}
 use Rattle.closure.proofs.Kept.{wider, row-kept, held-kept}
@@ -73,20 +73,43 @@ module _ (n : ℕ) (old : List ℕ) (a b g : ℕ) (A : Asked n old a b g) where
           rw (via-is, r j (omega (arith, A .size .1)), row-is j)
           (row-kept n (reach n) (cell old) a b g i j a< b< i< j< near (omega arith) (T .closed) (omega (arith, via-is, row-is b)))
 
-      pub more : (new : List ℕ) → RowRelaxed d new row i via n → Rows n old new a b g (i + 1)
-      more new S =
-          let n≤ : n ≤ stride = A .size .1 in
-          record {
-            at = below-more (λ k. (j : ℕ) → j < n → cell new k j ≡ tighterOf (cell old k j) (sumOf (sumOf (cell old k a) g) (cell old b j))) i
-                (λ k l j j<. S .before (k * stride + j) (omega arith) ∙ R .at k l j j<)
-                (λ j j<. cc (S .at j j<, row-is j, via-is, r j (omega arith)));
-            right = λ k j n≤j j<. go k j n≤j j< (decLt k i) ∙ R .right k j n≤j j<;
-            below = λ k h. S .after k (omega arith) ∙ R .below k (omega arith);
-          }
-        where
-          go : (k j : ℕ) → n ≤ j → j < stride → Dec (k < i) → cell new k j ≡ cell d k j
-          go k j p q (yes h) = S .before (k * stride + j) (omega arith)
-          go k j p q (no h) = S .after (k * stride + j) (omega arith)
+      module _ (from to : ℕ) (to≤ : to ≤ n) (low : (j : ℕ) → j < from → none ≤ getD row j 0) (high : (j : ℕ) → to ≤ j → j < n → none ≤ getD row j 0)
+          (new : List ℕ) (S : RowRelaxed d new row i via from to) where
+        abbrev Relaxed : ℕ → Type 0
+        Relaxed j = cell new i j ≡ tighterOf (cell old i j) (sumOf (sumOf (cell old i a) g) (cell old b j))
+
+        -- where row b has no gap, nothing is to be done
+        outside : (j : ℕ) → j < n → none ≤ getD row j 0 → cell new i j ≡ cell d i j → Relaxed j
+        outside j j< h e =
+            omega (
+              arith,
+              row-is j,
+              T .closed .range i j i< j< .top,
+              sum-none-right (sumOf (cell old i a) g) (cell old b j) (omega (arith, r j (omega (arith, A .size .1)))),
+            )
+
+        relaxed : (j : ℕ) → j < n → Relaxed j
+        relaxed j j< = go (decLt j from) (decLt j to)
+          where
+            go : Dec (j < from) → Dec (j < to) → Relaxed j
+            go (yes p) q = outside j j< (low j p) (S .before (i * stride + j) (omega arith))
+            go (no p) (yes q) = cc (S .at j (omega arith) q, row-is j, via-is, r j (omega (arith, A .size .1)))
+            go (no p) (no q) = outside j j< (high j (omega arith) j<) (S .after (i * stride + j) (omega arith))
+
+        pub more : Rows n old new a b g (i + 1)
+        more =
+            let n≤ : n ≤ stride = A .size .1 in
+            record {
+              at = below-more (λ k. (j : ℕ) → j < n → cell new k j ≡ tighterOf (cell old k j) (sumOf (sumOf (cell old k a) g) (cell old b j))) i
+                  (λ k l j j<. S .before (k * stride + j) (omega arith) ∙ R .at k l j j<)
+                  relaxed;
+              right = λ k j n≤j j<. go k j n≤j j< (decLt k i) ∙ R .right k j n≤j j<;
+              below = λ k h. S .after k (omega arith) ∙ R .below k (omega arith);
+            }
+          where
+            go : (k j : ℕ) → n ≤ j → j < stride → Dec (k < i) → cell new k j ≡ cell d k j
+            go k j p q (yes h) = S .before (k * stride + j) (omega arith)
+            go k j p q (no h) = S .after (k * stride + j) (omega arith)
 
   -- where the table holds the bound already
   implied : cell old a b ≤ g → Put n old old a b g

@@ -38,11 +38,11 @@ pub record RowStarted (old new : List ℕ) (i n : ℕ) : Type 0 where
   pub before : (k : ℕ) → k < i * stride → getD new k 0 ≡ getD old k 0
   pub after : (k : ℕ) → i * stride + n ≤ k → getD new k 0 ≡ getD old k 0
 
--- new is old with the first m cells of row i relaxed: the sum of via and the row's cell, where that is tighter
-pub record RowRelaxed (old new row : List ℕ) (i via m : ℕ) : Type 0 where
-  pub at : (j : ℕ) → j < m → cell new i j ≡ tighterOf (cell old i j) (sumOf via (getD row j 0))
-  pub before : (k : ℕ) → k < i * stride → getD new k 0 ≡ getD old k 0
-  pub after : (k : ℕ) → i * stride + m ≤ k → getD new k 0 ≡ getD old k 0
+-- new is old with the cells of row i from column `from` up to `to` relaxed: the sum of via and the row's cell, where that is tighter
+pub record RowRelaxed (old new row : List ℕ) (i via from to : ℕ) : Type 0 where
+  pub at : (j : ℕ) → from ≤ j → j < to → cell new i j ≡ tighterOf (cell old i j) (sumOf via (getD row j 0))
+  pub before : (k : ℕ) → k < i * stride + from → getD new k 0 ≡ getD old k 0
+  pub after : (k : ℕ) → i * stride + to ≤ k → getD new k 0 ≡ getD old k 0
 
 -- the bound g from a to b is put in: it closes no walk under zero, and the table is relaxed by it
 pub record Put (n : ℕ) (old new : List ℕ) (a b g : ℕ) : Type 0 where

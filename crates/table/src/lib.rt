@@ -40,10 +40,12 @@ pub fn insert(d: &mut [u32], n: usize, a: usize, b: usize, g: Gap) -> bool
         return false;
     }
     let row = row_of(d, b);
+    let from = first_there(&row, n);
+    let to = past_there(&row, from, n);
     let mut i = 0;
     while i < n {
         let via = gap_at(d, i, a).sum(g);
-        relax_row(d, i, b, via, &row, n);
+        relax_row(d, i, b, via, &row, from, to);
         i += 1;
     }
     true
@@ -120,20 +122,50 @@ fn row_of(d: &[u32], b: usize) -> [u32; 65]
     row
 }
 
-// The first n cells of row i become the tighter of what they are and the sum of via and the row's cell.
+// The first of n columns to which the row has a gap, or n.
+fn first_there(row: &[u32; 65], n: usize) -> usize
+    requires { ⌜ n ≤ stride ⌝ }
+    ensures { λ r. ⌜ (r ≤ n) × ((j : ℕ) → j < r → none ≤ getD (now (row .entry)) j 0) ⌝ }
+{
+    let mut k = 0;
+    while k < n {
+        if row[k] < Gap::NONE.0 {
+            return k;
+        }
+        k += 1;
+    }
+    n
+}
+
+// One past the last, or from where there is none from there on.
+fn past_there(row: &[u32; 65], from: usize, n: usize) -> usize
+    requires { ⌜ (from ≤ n) × (n ≤ stride) ⌝ }
+    ensures { λ r. ⌜ (from ≤ r) × (r ≤ n) × ((j : ℕ) → r ≤ j → j < n → none ≤ getD (now (row .entry)) j 0) ⌝ }
+{
+    let mut k = n;
+    while from < k {
+        if row[k - 1] < Gap::NONE.0 {
+            return k;
+        }
+        k -= 1;
+    }
+    k
+}
+
+// The cells of row i between two columns become the tighter of what they are and the sum of via and the row's cell.
 // Where the cell at b isn't improved, no cell of the row is.
-fn relax_row(d: &mut [u32], i: usize, b: usize, via: Gap, row: &[u32; 65], n: usize)
-    requires { ⌜ (length (now d) ≡ cells) × (i < stride) × (b < stride) × (n ≤ stride) ⌝ }
-    requires { ⌜ ((j : ℕ) → j < n → Addable (via .0) (getD (now row) j 0)) ⌝ }
-    requires { ⌜ (cell (now d) i b ≤ via .0 → (j : ℕ) → j < n → cell (now d) i j ≤ sumOf (via .0) (getD (now row) j 0)) ⌝ }
-    ensures { λ _. ⌜ RowRelaxed (now (d .entry)) (now (d .exit)) (now (row .entry)) i (via .0) n ⌝ }
+fn relax_row(d: &mut [u32], i: usize, b: usize, via: Gap, row: &[u32; 65], from: usize, to: usize)
+    requires { ⌜ (length (now d) ≡ cells) × (i < stride) × (b < stride) × (from ≤ to) × (to ≤ stride) ⌝ }
+    requires { ⌜ ((j : ℕ) → from ≤ j → j < to → Addable (via .0) (getD (now row) j 0)) ⌝ }
+    requires { ⌜ (cell (now d) i b ≤ via .0 → (j : ℕ) → from ≤ j → j < to → cell (now d) i j ≤ sumOf (via .0) (getD (now row) j 0)) ⌝ }
+    ensures { λ _. ⌜ RowRelaxed (now (d .entry)) (now (d .exit)) (now (row .entry)) i (via .0) from to ⌝ }
 {
     if gap_at(d, i, b).0 <= via.0 {
         return;
     }
     let at = i * STRIDE;
-    let mut j = 0;
-    while j < n {
+    let mut j = from;
+    while j < to {
         d[at + j] = Gap(d[at + j]).tighter(via.sum(Gap(row[j]))).0;
         j += 1;
     }

@@ -14,53 +14,58 @@ use Rattle.table.proofs.relax_row.Statement.{statement}
 use Rattle.table.proofs.relax_row.Tie as tie
 
 abbrev Inv-loop : tie.InvT-loop
-Inv-loop d₀ i b via row n at j₀ d j =
-    (at ≡ i * stride) × (j ≤ n) × (length d ≡ length d₀) × RowRelaxed d₀ d row i (via .0) j
+Inv-loop d₀ i b via row from to at j₀ d j =
+    (at ≡ i * stride) × (from ≤ j) × (j ≤ to) × (length d ≡ length d₀) × RowRelaxed d₀ d row i (via .0) from j
 
 abbrev μ-loop : tie.MeasureT-loop
-μ-loop d₀ i b via row n at j₀ d j = n - j
+μ-loop d₀ i b via row from to at j₀ d j = to - j
 
-skipped : (d row : List ℕ) (i via n : ℕ) → ((j : ℕ) → j < n → cell d i j ≤ sumOf via (getD row j 0)) → RowRelaxed d d row i via n
-skipped d row i via n h = record { at = λ j l. omega (arith, h j l); before = λ k l. refl; after = λ k l. refl }
+skipped : (d row : List ℕ) (i via from to : ℕ) → ((j : ℕ) → from ≤ j → j < to → cell d i j ≤ sumOf via (getD row j 0)) → RowRelaxed d d row i via from to
+skipped d row i via from to h = record { at = λ j k l. omega (arith, h j k l); before = λ k l. refl; after = λ k l. refl }
 
-none-yet : (d row : List ℕ) (i via : ℕ) → RowRelaxed d d row i via 0
-none-yet d row i via = record { at = λ j h. absurd (omega arith); before = λ k h. refl; after = λ k h. refl }
+none-yet : (d row : List ℕ) (i via from : ℕ) → RowRelaxed d d row i via from from
+none-yet d row i via from = record { at = λ j h k. absurd (omega arith); before = λ k h. refl; after = λ k h. refl }
 
-one-more : (old d row : List ℕ) (i via j v : ℕ) → RowRelaxed old d row i via j → i * stride + j < length d
-    → v ≡ tighterOf (cell d i j) (sumOf via (getD row j 0)) → RowRelaxed old (set d (i * stride + j) v) row i via (j + 1)
-one-more old d row i via j v R h e =
+one-more : (old d row : List ℕ) (i via from j v : ℕ) → RowRelaxed old d row i via from j → from ≤ j → i * stride + j < length d
+    → v ≡ tighterOf (cell d i j) (sumOf via (getD row j 0)) → RowRelaxed old (set d (i * stride + j) v) row i via from (j + 1)
+one-more old d row i via from j v R h l e =
     record {
-      at = below-more _ j
-          (λ k l. getD-set-other d (i * stride + j) (i * stride + k) v 0 (omega arith) ∙ R .at k l)
-          (getD-set-same d (i * stride + j) v 0 h ∙ e ∙ ap (λ (x : ℕ). tighterOf x (sumOf via (getD row j 0))) (R .after (i * stride + j) (omega arith)));
-      before = λ k l. getD-set-other d (i * stride + j) k v 0 (omega arith) ∙ R .before k l;
-      after = λ k l. getD-set-other d (i * stride + j) k v 0 (omega arith) ∙ R .after k (omega arith);
+      at = λ k p q.
+          below-more (λ k. from ≤ k → cell (set d (i * stride + j) v) i k ≡ tighterOf (cell old i k) (sumOf via (getD row k 0))) j
+          (λ k l p. getD-set-other d (i * stride + j) (i * stride + k) v 0 (omega arith) ∙ R .at k p l)
+          (λ p. getD-set-same d (i * stride + j) v 0 l ∙ e ∙ ap (λ (x : ℕ). tighterOf x (sumOf via (getD row j 0))) (R .after (i * stride + j) (omega arith)))
+          k q p;
+      before = λ k p. getD-set-other d (i * stride + j) k v 0 (omega arith) ∙ R .before k p;
+      after = λ k p. getD-set-other d (i * stride + j) k v 0 (omega arith) ∙ R .after k (omega arith);
     }
 
 returns : tie.Need-returns Inv-loop μ-loop
 returns c =
-    let start = c .before .before .before .before .before .before in
-    skipped _ _ (start .args .i) (start .args .via .0) (start .args .n) (start .pre .1 .1 (rw (c .before .before .before .gap-at .ensures) at (c .if1 .taken)))
+    let read = c .before .before .before in
+    let start = read .before .before .before in
+    skipped _ _ (start .args .i) (start .args .via .0) _ _ (start .pre .1 .1 (rw (read .gap-at .ensures) at (c .if1 .taken)))
 
 loop-holds : tie.Need-loop-holds Inv-loop μ-loop
-loop-holds c = (refl, omega arith, refl, none-yet _ _ _ _)
+loop-holds c = (refl, omega arith, omega arith, refl, none-yet _ _ _ _ _)
 
 sum-requires : tie.Need-sum-requires Inv-loop μ-loop
-sum-requires c κs = c .before .before .before .before .before .before .before .before .before .before .pre .1 .0 _ (omega arith)
+sum-requires c κs =
+    let start = c .before .before .before .before .before .before .before .before .before .before in
+    start .pre .1 .0 _ (omega arith) (omega arith)
 
 loop-again : tie.Need-loop-again Inv-loop μ-loop
 loop-again c =
-    let head = c .before .before .before .before .before in (
-      refl,
-      omega arith,
-      simp length-set (omega arith),
-      one-more _ _ _ _ _ _ _ (head .loop .inv .3) (omega arith) (c .tighter .ensures .0 ∙ ap (tighterOf _) (c .before .sum .ensures .0)),
-    )
+    let added = c .before in
+    let turn = added .before .before .before .before in
+    let relaxed = c .tighter .ensures .0 ∙ ap (tighterOf _) (added .sum .ensures .0) in
+    (refl, omega arith, omega arith, simp length-set (omega arith), one-more _ _ _ _ _ _ _ _ (turn .loop .inv .4) (omega arith) (omega arith) relaxed)
 
 returns-2 : tie.Need-returns-2 Inv-loop μ-loop
 returns-2 c =
-    let end : c .before .loop .j ≡ c .before .before .before .before .before .before .before .before .args .n = omega arith in
-    rw end at (c .before .loop .inv .3)
+    let turn = c .before in
+    let start = turn .before .before .before .before .before .before .before in
+    let end : turn .loop .j ≡ start .args .to = omega arith in
+    rw end at (turn .loop .inv .4)
 
 pub relax-row-spec : {M : Type 1} → statement M
 relax-row-spec =
