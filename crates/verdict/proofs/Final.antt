@@ -2,7 +2,7 @@
 -- holds; a refusal on the way, or a broken ≠ entry, leaves no levels that meet the sheet, so the set clashes.
 -- Assumes nothing.
 use Prim.Native.Nat.{ℕ, _+_, _<_}
-use mathlib.Core.Path.{_≡_, _∙_}
+use mathlib.Core.Path.{_≡_, refl, _∙_}
 use mathlib.Core.Bool.{Bool, true, false}
 use mathlib.Core.List.{List}
 use lib.IntN.{ℤ}
@@ -17,12 +17,12 @@ use Rattle.values.specs.Settled.{points, Saturated, Settled}
 use Rattle.values.proofs.Held.{tied-met}
 use Rattle.values.proofs.Meet.{settled-meets}
 use Rattle.bounds.specs.Step.{Met, Stepped}
-use Rattle.bounds.specs.True.{TermsTrue, EntriesTrue, TermsHeld, EntriesHeld}
+use Rattle.bounds.specs.True.{TermsHeld, EntriesHeld, TermsPut, EntriesPut}
 use Rattle.bounds.proofs.Steps.{Leaves, changed, followed, term-tighter, entry-tighter}
 use Rattle.ties.specs.Ties.{Checked}
-use Rattle.verdict.specs.declared.Verdict.the-variants.{Holds, Clashes}
-use Rattle.verdict.specs.Judged.{Judged}
-use Rattle.verdict.specs.Passing.{FunctionsTrue}
+use Rattle.verdict.specs.declared.Verdict.the-variants.{Clashes}
+use Rattle.verdict.specs.Judged.{verdictOf, Judged}
+use Rattle.verdict.specs.Passing.{FunctionsPut}
 use Rattle.verdict.proofs.Ground.{Model, no-model}
 
 -- every level meets a table of no bounds
@@ -47,12 +47,11 @@ module _ (s : Sheet) (S : Set) (W : WellFormed s) where
   abbrev pub Toward : Leaves → List ℕ → List ℕ → Bool → Type 0
   Toward P = Stepped (points s) (Model s S) P
 
-  pub with-terms : {old new : List ℕ} {r : Bool} → Stepped (points s) (TermsTrue s) (TermsHeld s (countTerms s)) old new r
-      → Toward (TermsHeld s (countTerms s)) old new r
+  pub with-terms : {old new : List ℕ} {r : Bool} → TermsPut s old new r → Toward (TermsHeld s (countTerms s)) old new r
   with-terms = changed (λ D v m. record { zero = m .zero; defined = m .meet .defined }) (λ d p. p)
 
   pub with-entries : {old mid new : List ℕ} {q r : Bool} → q ≡ true → Toward (TermsHeld s (countTerms s)) old mid q
-      → Stepped (points s) (EntriesTrue s S) (EntriesHeld s S (countEntries s)) mid new r → Toward Both old new r
+      → EntriesPut s S mid new r → Toward Both old new r
   with-entries e A =
       followed (λ D v m. m) (λ D v m. record { entries = m .meet .entries })
       (λ d e t p q.
@@ -62,8 +61,7 @@ module _ (s : Sheet) (S : Set) (W : WellFormed s) where
       })
       (A .kept) (A .went e)
 
-  pub with-functions : {old mid new : List ℕ} {q r : Bool} → q ≡ true → Toward Both old mid q
-      → Stepped (points s) (FunctionsTrue s) (Saturated s) mid new r → Toward All old new r
+  with-functions : {old mid new : List ℕ} {q r : Bool} → q ≡ true → Toward Both old mid q → FunctionsPut s mid new r → Toward All old new r
   with-functions e A =
       followed (λ D v m. m) (λ D v m. record { functions = m .meet .functions })
       (λ d e t p q.
@@ -80,6 +78,11 @@ module _ (s : Sheet) (S : Set) (W : WellFormed s) where
         saturated = q;
       })
       (A .kept) (A .went e)
+
+  -- all three one after the other
+  pub with-all : {d₀ d₁ d₂ d₃ : List ℕ} {p q r : Bool} → TermsPut s d₀ d₁ p → p ≡ true → EntriesPut s S d₁ d₂ q → q ≡ true → FunctionsPut s d₂ d₃ r
+      → Toward All d₀ d₃ r
+  with-all A e B f C = with-functions f (with-entries e (with-terms A) B) C
 
   module _ {m : ℕ} {old d : List ℕ} (m-is : m ≡ countTerms s) (F : Started (m + 1) old d) where
     -- every level meets the table that was started, which has m terms as the code counts them
@@ -113,12 +116,6 @@ module _ (s : Sheet) (S : Set) (W : WellFormed s) where
           (rw (b .broken .unequal·) at (M .meet .entries (b .e) (b .below) (b .marked)))
           (tied-met _ (b .broken .tied) (T .met _ _ l k) (T .met _ _ k l))
 
-      pub broken : sound ≡ false → Judged s S (cell new) Clashes × Kept (points s) old new
-      broken e = (
-        record { holds = λ h. absurd (omega arith); settled = λ h. absurd (omega arith); clashes = λ h. no-model s S W (none e) },
-        kept A,
-      )
-
       all : sound ≡ true → Settled s S (cell new)
       all e =
           let G = A .went f in
@@ -130,13 +127,15 @@ module _ (s : Sheet) (S : Set) (W : WellFormed s) where
             apart = B .apart e;
           }
 
-      -- nothing broken
-      pub settled : sound ≡ true → Judged s S (cell new) Holds × Kept (points s) old new
-      settled e = (
-        record {
-          holds = λ h. record { D = _; n = _; meet = settled-meets s S (cell new) W (all e) };
-          settled = λ h. all e;
-          clashes = λ h. absurd (omega arith);
-        },
-        kept A,
-      )
+      judged : (b : Bool) → sound ≡ b → Judged s S (cell new) (verdictOf b)
+      judged true e =
+          record {
+            holds = λ h. record { D = _; n = _; meet = settled-meets s S (cell new) W (all e) };
+            settled = λ h. all e;
+            clashes = λ h. absurd (omega arith);
+          }
+      judged false e = record { holds = λ h. absurd (omega arith); settled = λ h. absurd (omega arith); clashes = λ h. no-model s S W (none e) }
+
+      -- the last test decides
+      pub told : Judged s S (cell new) (verdictOf sound) × Kept (points s) old new
+      told = (judged sound refl, kept A)

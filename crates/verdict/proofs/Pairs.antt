@@ -1,7 +1,7 @@
 -- One pair of terms: the three answers of a pass over it, and that a table in which no pair is left to tie is saturated.
 -- Assumes nothing.
 use Prim.Native.Nat.{ℕ, _+_, _≤_, _<_}
-use mathlib.Core.Path.{_≡_, sym, _∙_, ap}
+use mathlib.Core.Path.{_≡_, refl, sym, _∙_, ap}
 use mathlib.Core.Bool.{Bool, true, false}
 use mathlib.Core.Logic.{⊎-elim}
 use mathlib.Core.List.{List}
@@ -23,7 +23,7 @@ use Rattle.bounds.specs.Step.{Met, Stepped}
 use Rattle.bounds.specs.True.{TieTrue}
 use Rattle.ties.specs.Ties.{Decides, isApplication, Joined}
 use Rattle.verdict.specs.declared.Passed.the-variants.{Clash, New, Still}
-use Rattle.verdict.specs.Passing.{FunctionsTrue, PairTied, RowTied, AllTied, Passing, clash, tied, still}
+use Rattle.verdict.specs.Passing.{FunctionsTrue, PairTied, RowTied, AllTied, Passing, clash, tied, still, putOf}
 use Rattle.verdict.proofs.Total.{falls}
 
 module _ (s : Sheet) (W : WellFormed s) (i j : ℕ) (i< : i < countTerms s) (j< : j < i) (old : List ℕ) where
@@ -53,14 +53,21 @@ module _ (s : Sheet) (W : WellFormed s) (i j : ℕ) (i< : i < countTerms s) (j< 
         put : Stepped (points s) (TieTrue i j (pos 0)) (λ k. TiedAt k i j (pos 0)) old new r
         put = rw m-is at S
 
-        pub refused : r ≡ false → Passing s (PairTied s i j) old new Clash
+        refused : r ≡ false → Passing s (PairTied s i j) old new Clash
         refused f = clash (λ D v D> M F. put .refuted f D v D> M (asked D v M F)) (put .kept)
 
-        pub tied-now : r ≡ true → (TiedAt (cell old) i j (pos 0) → ⊥) → Passing s (PairTied s i j) old new New
+        tied-now : r ≡ true → (TiedAt (cell old) i j (pos 0) → ⊥) → Passing s (PairTied s i j) old new New
         tied-now f not =
             let G = put .went f in
             tied (record { table = G .table; tighter = G .tighter; met = λ D v D> M F. G .met D v D> M (asked D v M F); there = tt }) (put .kept)
             (falls (points s) (cell old) (cell new) (G .tighter) i j (omega arith) (omega arith) not (G .there))
+
+        pub joined : (TiedAt (cell old) i j (pos 0) → ⊥) → Passing s (PairTied s i j) old new (putOf r)
+        joined not = go r refl
+          where
+            go : (b : Bool) → r ≡ b → Passing s (PairTied s i j) old new (putOf b)
+            go true f = tied-now f not
+            go false f = refused f
 
 -- a term that is no application has the same input as none
 no-input : {d : ℕ → ℕ → ℕ} {t u : Term} → isApplication t ≡ false → Joined d t u → ⊥

@@ -2,6 +2,7 @@
 -- Assumes nothing.
 use Prim.Native.Nat.{ℕ}
 use mathlib.Core.Path.{_≡_}
+use mathlib.Core.Bool.{Bool, true, false}
 use Rattle.order.specs.First.{Set}
 use Rattle.sheet.specs.Sheet.{Sheet}
 use Rattle.meaning.specs.Meaning.{Holds as SheetHolds, Clashes as SheetClashes}
@@ -13,6 +14,11 @@ use Rattle.verdict.specs.declared.Verdict.the-variants.{Holds, Clashes}
 abbrev pub numberOf : Verdict → ℕ
 numberOf Holds = 0
 numberOf Clashes = 1
+
+-- the last test, that no ≠ entry is broken, decides
+abbrev pub verdictOf : Bool → Verdict
+verdictOf true = Holds
+verdictOf false = Clashes
 
 pub record Judged (s : Sheet) (S : Set) (d : ℕ → ℕ → ℕ) (answer : Verdict) : Type 0 where
   pub holds : numberOf answer ≡ 0 → SheetHolds s S

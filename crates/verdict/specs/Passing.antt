@@ -64,3 +64,8 @@ isNew Still = false
 abbrev pub passedOf : Bool → Passed
 passedOf true = New
 passedOf false = Still
+
+-- a pair that isn't tied yet is tied now, or that clashes
+abbrev pub putOf : Bool → Passed
+putOf true = New
+putOf false = Clash

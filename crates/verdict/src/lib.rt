@@ -10,8 +10,8 @@ ghost use Rattle.order.specs.First.{marked};
 ghost use Rattle.sheet.specs.Decode.{Sized, sheetOf};
 ghost use Rattle.sheet.specs.Sheet.{WellFormed, countTerms, countEntries};
 ghost use Rattle.values.specs.Settled.{points};
-ghost use Rattle.verdict.specs.Judged.{Judged};
-ghost use Rattle.verdict.specs.Passing.{PairTied, RowTied, AllTied, Passing, FunctionsPut, isClash, isNew, passedOf};
+ghost use Rattle.verdict.specs.Judged.{verdictOf, Judged};
+ghost use Rattle.verdict.specs.Passing.{PairTied, RowTied, AllTied, Passing, FunctionsPut, isClash, isNew, passedOf, putOf};
 use sheet::Biased;
 use sheet::TermNumber;
 
@@ -43,10 +43,17 @@ pub fn on(sheet: &[u8], set: &[bool], d: &mut [u32]) -> Verdict
     if !settle(sheet, d) {
         return Verdict::Clashes;
     }
-    if !ties::apart(sheet, set, d) {
-        return Verdict::Clashes;
+    told(ties::apart(sheet, set, d))
+}
+
+fn told(apart: bool) -> Verdict
+    ensures { λ r. ⌜ r ≡ verdictOf apart ⌝ }
+{
+    if apart {
+        Verdict::Holds
+    } else {
+        Verdict::Clashes
     }
-    Verdict::Holds
 }
 
 // Passes equalities until a pass finds nothing new.
@@ -149,8 +156,11 @@ fn pass_pair(sheet: &[u8], d: &mut [u32], i: usize, j: usize) -> Passed
     if ties::tied_at(d, n, i, j, Biased::ZERO) {
         return Passed::Still;
     }
-    if !bounds::put_tie(d, n, i, j, Biased::ZERO) {
-        return Passed::Clash;
-    }
-    Passed::New
+    put(bounds::put_tie(d, n, i, j, Biased::ZERO))
+}
+
+fn put(tied: bool) -> Passed
+    ensures { λ r. ⌜ r ≡ putOf tied ⌝ }
+{
+    if tied { Passed::New } else { Passed::Clash }
 }

@@ -4,7 +4,7 @@ use native.Mathlib.Omega.{arith}
 use borrow.Author.Needs.{needs}
 use borrow.Author.Tests.{not-true, not-false}
 use Rattle.verdict.specs.Passing.{still}
-use Rattle.verdict.proofs.Pairs.{not-joined, refused, tied-now, arguments}
+use Rattle.verdict.proofs.Pairs.{not-joined, joined, arguments}
 use Rattle.verdict.proofs.pass_pair.Statement.{statement}
 use Rattle.verdict.proofs.pass_pair.Tie as tie
 
@@ -47,36 +47,22 @@ put-tie-requires c κs =
 
 returns-3 : tie.Need-returns-3
 returns-3 c =
-    let put = c .before .before .before in
-    let untied = put .before .before in
+    let tied = c .before .before .before in
+    let untied = tied .before .before in
     let looked = untied .before in
-    let joined = looked .before .before in
-    let test = joined .before in
+    let same = looked .before .before in
+    let test = same .before in
     let second = test .before .before in
     let first = second .before in
     let counted = first .before in
     let start = counted .before .before .before in
-    refused _ (start .pre .0 .1) _ _ (start .pre .0 .2) (start .pre .0 .3) _ (first .term-at .ensures) (second .term-at2 .ensures) (test .same-input .ensures)
-    (not-false _ (joined .if1 .left)) (counted .count-terms .ensures .0) (put .put-tie .ensures) (not-true _ (c .if3 .taken))
-
-returns-4 : tie.Need-returns-4
-returns-4 c =
-    let put = c .before .before .before in
-    let untied = put .before .before in
-    let looked = untied .before in
-    let joined = looked .before .before in
-    let test = joined .before in
-    let second = test .before .before in
-    let first = second .before in
-    let counted = first .before in
-    let start = counted .before .before .before in
-    tied-now _ (start .pre .0 .1) _ _ (start .pre .0 .2) (start .pre .0 .3) _ (first .term-at .ensures) (second .term-at2 .ensures) (test .same-input .ensures)
-    (not-false _ (joined .if1 .left)) (counted .count-terms .ensures .0) (put .put-tie .ensures) (not-false _ (c .if3 .left))
-    (looked .tied-at .ensures .no (untied .if2 .left))
+    rw (c .put .ensures)
+    (joined _ (start .pre .0 .1) _ _ (start .pre .0 .2) (start .pre .0 .3) _ (first .term-at .ensures) (second .term-at2 .ensures) (test .same-input .ensures)
+    (not-false _ (same .if1 .left)) (counted .count-terms .ensures .0) (tied .put-tie .ensures) (looked .tied-at .ensures .no (untied .if2 .left)))
 
 pub pass-pair-spec : {M : Type 1} → statement M
 pass-pair-spec =
     tie.close
     (tie.spec (λ c κs. search needs) (λ c. omega arith) (λ c. omega arith) (λ c κs. search needs) (λ c. omega arith)
     (λ c κs. search needs) same-input-requires (λ c. search needs) returns tied-at-requires (λ c. search needs) returns-2
-    put-tie-requires (λ c. search needs) returns-3 (λ c. search needs) returns-4)
+    put-tie-requires (λ c κs. search needs) (λ c. search needs) returns-3)
