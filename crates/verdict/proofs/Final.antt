@@ -1,5 +1,5 @@
 -- The parts of a verdict together: a table with all terms and entries in, saturated and with no ≠ entry broken, is settled and so the set
--- holds; a refusal on the way, or a broken ≠ entry, leaves no levels that meet the sheet, so the set clashes.
+-- holds; a refusal on the way leaves no levels that meet the sheet, so the set clashes.
 -- Assumes nothing.
 use Prim.Native.Nat.{ℕ, _+_, _<_}
 use mathlib.Core.Path.{_≡_, refl, _∙_}
@@ -13,16 +13,14 @@ use Rattle.gap.proofs.Laws.{meets-zero, meets-none}
 use Rattle.table.specs.Cells.{cell, Kept, Started}
 use Rattle.order.specs.First.{Set}
 use Rattle.sheet.specs.Sheet.{Sheet, countTerms, countEntries, entryAt, WellFormed}
-use Rattle.values.specs.Settled.{points, Saturated, Settled}
-use Rattle.values.proofs.Held.{tied-met}
+use Rattle.values.specs.Settled.{points, Settled}
 use Rattle.values.proofs.Meet.{settled-meets}
 use Rattle.bounds.specs.Step.{Met, Stepped}
 use Rattle.bounds.specs.True.{TermsHeld, EntriesHeld, TermsPut, EntriesPut}
 use Rattle.bounds.proofs.Steps.{Leaves, changed, followed, term-tighter, entry-tighter}
-use Rattle.ties.specs.Ties.{Checked}
 use Rattle.verdict.specs.declared.Verdict.the-variants.{Clashes}
 use Rattle.verdict.specs.Judged.{verdictOf, Judged}
-use Rattle.verdict.specs.Passing.{FunctionsPut}
+use Rattle.verdict.specs.Passing.{RestHeld, RestPut}
 use Rattle.verdict.proofs.Ground.{Model, no-model}
 
 -- every level meets a table of no bounds
@@ -41,7 +39,7 @@ module _ (s : Sheet) (S : Set) (W : WellFormed s) where
 
   pub record All (d : ℕ → ℕ → ℕ) : Type 0 where
     pub both : Both d
-    pub saturated : Saturated s d
+    pub rest : RestHeld s S d
 
   -- from a started table on, a step towards the verdict
   abbrev pub Toward : Leaves → List ℕ → List ℕ → Bool → Type 0
@@ -61,9 +59,9 @@ module _ (s : Sheet) (S : Set) (W : WellFormed s) where
       })
       (A .kept) (A .went e)
 
-  with-functions : {old mid new : List ℕ} {q r : Bool} → q ≡ true → Toward Both old mid q → FunctionsPut s mid new r → Toward All old new r
-  with-functions e A =
-      followed (λ D v m. m) (λ D v m. record { functions = m .meet .functions })
+  pub with-rest : {old mid new : List ℕ} {q r : Bool} → q ≡ true → Toward Both old mid q → RestPut s S mid new r → Toward All old new r
+  with-rest e A =
+      followed (λ D v m. m) (λ D v m. record { functions = record { functions = m .meet .functions }; entries = record { entries = m .meet .entries } })
       (λ d e t p q.
       record {
         both =
@@ -75,14 +73,9 @@ module _ (s : Sheet) (S : Set) (W : WellFormed s) where
                         entry-tighter t (entryAt s k) (omega (arith, W .left k k<)) (omega (arith, W .right k k<)) (p .entries .entries k k< h);
                   };
             };
-        saturated = q;
+        rest = q;
       })
       (A .kept) (A .went e)
-
-  -- all three one after the other
-  pub with-all : {d₀ d₁ d₂ d₃ : List ℕ} {p q r : Bool} → TermsPut s d₀ d₁ p → p ≡ true → EntriesPut s S d₁ d₂ q → q ≡ true → FunctionsPut s d₂ d₃ r
-      → Toward All d₀ d₃ r
-  with-all A e B f C = with-functions f (with-entries e (with-terms A) B) C
 
   module _ {m : ℕ} {old d : List ℕ} (m-is : m ≡ countTerms s) (F : Started (m + 1) old d) where
     -- every level meets the table that was started, which has m terms as the code counts them
@@ -105,37 +98,29 @@ module _ (s : Sheet) (S : Set) (W : WellFormed s) where
       kept A,
     )
 
-    module _ {new : List ℕ} {r : Bool} (A : Toward All d new r) (f : r ≡ true) {sound : Bool} (B : Checked s S (cell new) sound) where
-      -- a ≠ entry's terms that the table ties at its c are apart by c in whatever meets the table
-      none : sound ≡ false → (D : ℕ) (v : ℕ → ℤ) → Model s S D v → ⊥
-      none e D v M =
-          let b = B .broken e in
-          let T : Met (points s) D (cell new) v = A .went f .met D v (M .meet .positive) (fresh-met D v) M in
-          let l : entryAt s (b .e) .a < points s = omega (arith, W .left (b .e) (b .below)) in
-          let k : entryAt s (b .e) .b < points s = omega (arith, W .right (b .e) (b .below)) in
-          (rw (b .broken .unequal·) at (M .meet .entries (b .e) (b .below) (b .marked)))
-          (tied-met _ (b .broken .tied) (T .met _ _ l k) (T .met _ _ k l))
-
-      all : sound ≡ true → Settled s S (cell new)
-      all e =
-          let G = A .went f in
+    module _ {new : List ℕ} {r : Bool} (A : Toward All d new r) where
+      settled : r ≡ true → Settled s S (cell new)
+      settled e =
+          let G = A .went e in
           record {
             closed = G .table .closed;
             terms = G .there .both .terms .terms;
             entries = G .there .both .entries .entries;
-            functions = G .there .saturated;
-            apart = B .apart e;
+            functions = G .there .rest .saturated;
+            apart = G .there .rest .apart;
           }
 
-      judged : (b : Bool) → sound ≡ b → Judged s S (cell new) (verdictOf b)
-      judged true e =
-          record {
-            holds = λ h. record { D = _; n = _; meet = settled-meets s S (cell new) W (all e) };
-            settled = λ h. all e;
-            clashes = λ h. absurd (omega arith);
-          }
-      judged false e = record { holds = λ h. absurd (omega arith); settled = λ h. absurd (omega arith); clashes = λ h. no-model s S W (none e) }
+      judged : (b : Bool) → r ≡ b → Judged s S (cell new) (verdictOf b) × Kept (points s) old new
+      judged true e = (
+        record {
+          holds = λ h. record { D = _; n = _; meet = settled-meets s S (cell new) W (settled e) };
+          settled = λ h. settled e;
+          clashes = λ h. absurd (omega arith);
+        },
+        kept A,
+      )
+      judged false e = refused A e
 
-      -- the last test decides
-      pub told : Judged s S (cell new) (verdictOf sound) × Kept (points s) old new
-      told = (judged sound refl, kept A)
+      -- the last step decides
+      pub told : Judged s S (cell new) (verdictOf r) × Kept (points s) old new
+      told = judged r refl

@@ -15,7 +15,7 @@ abbrev pub numberOf : Verdict → ℕ
 numberOf Holds = 0
 numberOf Clashes = 1
 
--- the last test, that no ≠ entry is broken, decides
+-- the last step decides
 abbrev pub verdictOf : Bool → Verdict
 verdictOf true = Holds
 verdictOf false = Clashes

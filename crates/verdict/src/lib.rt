@@ -11,7 +11,7 @@ ghost use Rattle.sheet.specs.Decode.{Sized, sheetOf};
 ghost use Rattle.sheet.specs.Sheet.{WellFormed, countTerms, countEntries};
 ghost use Rattle.values.specs.Settled.{points};
 ghost use Rattle.verdict.specs.Judged.{verdictOf, Judged};
-ghost use Rattle.verdict.specs.Passing.{PairTied, RowTied, AllTied, Passing, FunctionsPut, isClash, isNew, passedOf, putOf};
+ghost use Rattle.verdict.specs.Passing.{PairTied, RowTied, AllTied, Passing, FunctionsPut, RestPut, isClash, isNew, passedOf, putOf};
 use sheet::Biased;
 use sheet::TermNumber;
 
@@ -40,20 +40,30 @@ pub fn on(sheet: &[u8], set: &[bool], d: &mut [u32]) -> Verdict
     if !bounds::put_entries(sheet, set, d) {
         return Verdict::Clashes;
     }
-    if !settle(sheet, d) {
-        return Verdict::Clashes;
-    }
-    told(ties::apart(sheet, set, d))
+    told(finish(sheet, set, d))
 }
 
-fn told(apart: bool) -> Verdict
-    ensures { λ r. ⌜ r ≡ verdictOf apart ⌝ }
+fn told(sound: bool) -> Verdict
+    ensures { λ r. ⌜ r ≡ verdictOf sound ⌝ }
 {
-    if apart {
+    if sound {
         Verdict::Holds
     } else {
         Verdict::Clashes
     }
+}
+
+// With all terms and entries in: passes equalities on, then looks at the ≠ entries.
+fn finish(sheet: &[u8], set: &[bool], d: &mut [u32]) -> bool
+    requires { ⌜ Sized (now sheet) × WellFormed (sheetOf (now sheet)) ⌝ }
+    requires { ⌜ countEntries (sheetOf (now sheet)) ≤ length (now set) ⌝ }
+    requires { ⌜ (length (now d) ≡ cells) × Table (points (sheetOf (now sheet))) (cell (now d)) ⌝ }
+    ensures { λ r. ⌜ RestPut (sheetOf (now (sheet .entry))) (marked (now (set .entry))) (now (d .entry)) (now (d .exit)) r ⌝ }
+{
+    if !settle(sheet, d) {
+        return false;
+    }
+    ties::apart(sheet, set, d)
 }
 
 // Passes equalities until a pass finds nothing new.

@@ -3,7 +3,7 @@
 use native.Mathlib.Omega.{arith}
 use borrow.Author.Needs.{needs}
 use borrow.Author.Tests.{not-true, not-false}
-use Rattle.verdict.proofs.Final.{with-terms, with-entries, with-all, refused, told}
+use Rattle.verdict.proofs.Final.{with-terms, with-entries, with-rest, refused, told}
 use Rattle.verdict.proofs.on.Statement.{statement}
 use Rattle.verdict.proofs.on.Tie as tie
 
@@ -41,59 +41,34 @@ returns-2 c =
     let started = terms .before .before .before .before in
     let start = started .before .before .before .before .before .before in
     let wf = start .pre .0 .1 in
-    let A = with-entries _ _ wf (not-false _ (entered .if1 .left)) (with-terms _ _ wf (terms .put-terms .ensures)) (entries .put-entries .ensures) in
-    refused _ _ wf (started .before .count-terms .ensures .0) (started .start .ensures) A (not-true _ (c .if2 .taken))
+    let A = with-terms _ _ wf (terms .put-terms .ensures) in
+    let B = with-entries _ _ wf (not-false _ (entered .if1 .left)) A (entries .put-entries .ensures) in
+    refused _ _ wf (started .before .count-terms .ensures .0) (started .start .ensures) B (not-true _ (c .if2 .taken))
 
-settle-requires : tie.Need-settle-requires
-settle-requires c κs =
+finish-requires : tie.Need-finish-requires
+finish-requires c κs =
     let passing = c .before in
     let entries = passing .before .before .before in
     let start = entries .before .before .before .before .before .before .before .before .before .before .before .before .before .before .before in
-    (start .pre .0, (omega arith, entries .put-entries .ensures .went (not-false _ (passing .if2 .left)) .table))
+    (start .pre .0, (start .pre .1 .0, (omega arith, entries .put-entries .ensures .went (not-false _ (passing .if2 .left)) .table)))
 
 returns-3 : tie.Need-returns-3
 returns-3 c =
-    let settled = c .before .before .before in
-    let passing = settled .before .before in
+    let finished = c .before .before .before in
+    let passing = finished .before .before in
     let entries = passing .before .before .before in
     let entered = entries .before .before in
     let terms = entered .before .before .before in
     let started = terms .before .before .before .before in
     let start = started .before .before .before .before .before .before in
     let wf = start .pre .0 .1 in
-    let A =
-    with-all _ _ wf (terms .put-terms .ensures) (not-false _ (entered .if1 .left)) (entries .put-entries .ensures)
-    (not-false _ (passing .if2 .left)) (settled .settle .ensures)
-    in
-    refused _ _ wf (started .before .count-terms .ensures .0) (started .start .ensures) A (not-true _ (c .if3 .taken))
-
-apart-requires : tie.Need-apart-requires
-apart-requires c κs =
-    let start = c .before .before .before .before .before .before .before .before .before .before .before .before .before .before .before .before .before .before .before .before .before .before .before .before in
-    let closed = c .before .before .before .before .settle .ensures .went (not-false _ (c .before .if3 .left)) .table .closed in
-    (start .pre .0, ((start .pre .1 .0, omega arith), closed))
-
-returns-4 : tie.Need-returns-4
-returns-4 c =
-    let looked = c .before in
-    let passed = looked .before .before in
-    let settled = passed .before .before .before in
-    let passing = settled .before .before in
-    let entries = passing .before .before .before in
-    let entered = entries .before .before in
-    let terms = entered .before .before .before in
-    let started = terms .before .before .before .before in
-    let start = started .before .before .before .before .before .before in
-    let wf = start .pre .0 .1 in
-    let A =
-    with-all _ _ wf (terms .put-terms .ensures) (not-false _ (entered .if1 .left)) (entries .put-entries .ensures)
-    (not-false _ (passing .if2 .left)) (settled .settle .ensures)
-    in
-    rw (c .told .ensures) (told _ _ wf (started .before .count-terms .ensures .0) (started .start .ensures) A (not-false _ (passed .if3 .left)) (looked .apart .ensures))
+    let A = with-terms _ _ wf (terms .put-terms .ensures) in
+    let B = with-entries _ _ wf (not-false _ (entered .if1 .left)) A (entries .put-entries .ensures) in
+    let C = with-rest _ _ wf (not-false _ (passing .if2 .left)) B (finished .finish .ensures) in
+    rw (c .told .ensures) (told _ _ wf (started .before .count-terms .ensures .0) (started .start .ensures) C)
 
 pub on-spec : {M : Type 1} → statement M
 on-spec =
     tie.close
     (tie.spec (λ c κs. search needs) (λ c. search needs) start-requires put-terms-requires (λ c. omega arith) returns
-    put-entries-requires (λ c. omega arith) returns-2 settle-requires (λ c. omega arith) returns-3 apart-requires
-    (λ c κs. search needs) (λ c. omega arith) returns-4)
+    put-entries-requires (λ c. omega arith) returns-2 finish-requires (λ c κs. search needs) (λ c. omega arith) returns-3)
