@@ -108,11 +108,11 @@ fn fill(d: &mut [u32], at: usize, n: usize)
 }
 
 // Row b, by value: the rows are relaxed by it while the table changes.
-fn row_of(d: &[u32], b: usize) -> [u32; 65]
+fn row_of(d: &[u32], b: usize) -> [u32; STRIDE]
     requires { ⌜ (length (now d) ≡ cells) × (b < stride) ⌝ }
     ensures { λ r. ⌜ ((j : ℕ) → j < stride → getD r j 0 ≡ cell (now (d .entry)) b j) ⌝ }
 {
-    let mut row = [0u32; 65];
+    let mut row = [0u32; STRIDE];
     let at = b * STRIDE;
     let mut j = 0;
     while j < STRIDE {
@@ -123,7 +123,7 @@ fn row_of(d: &[u32], b: usize) -> [u32; 65]
 }
 
 // The first of n columns to which the row has a gap, or n.
-fn first_there(row: &[u32; 65], n: usize) -> usize
+fn first_there(row: &[u32; STRIDE], n: usize) -> usize
     requires { ⌜ n ≤ stride ⌝ }
     ensures { λ r. ⌜ (r ≤ n) × ((j : ℕ) → j < r → none ≤ getD (now (row .entry)) j 0) ⌝ }
 {
@@ -138,7 +138,7 @@ fn first_there(row: &[u32; 65], n: usize) -> usize
 }
 
 // One past the last, or from where there is none from there on.
-fn past_there(row: &[u32; 65], from: usize, n: usize) -> usize
+fn past_there(row: &[u32; STRIDE], from: usize, n: usize) -> usize
     requires { ⌜ (from ≤ n) × (n ≤ stride) ⌝ }
     ensures { λ r. ⌜ (from ≤ r) × (r ≤ n) × ((j : ℕ) → r ≤ j → j < n → none ≤ getD (now (row .entry)) j 0) ⌝ }
 {
@@ -154,7 +154,15 @@ fn past_there(row: &[u32; 65], from: usize, n: usize) -> usize
 
 // The cells of row i between two columns become the tighter of what they are and the sum of via and the row's cell.
 // Where the cell at b isn't improved, no cell of the row is.
-fn relax_row(d: &mut [u32], i: usize, b: usize, via: Gap, row: &[u32; 65], from: usize, to: usize)
+fn relax_row(
+    d: &mut [u32],
+    i: usize,
+    b: usize,
+    via: Gap,
+    row: &[u32; STRIDE],
+    from: usize,
+    to: usize,
+)
     requires { ⌜ (length (now d) ≡ cells) × (i < stride) × (b < stride) × (from ≤ to) × (to ≤ stride) ⌝ }
     requires { ⌜ ((j : ℕ) → from ≤ j → j < to → Addable (via .0) (getD (now row) j 0)) ⌝ }
     requires { ⌜ (cell (now d) i b ≤ via .0 → (j : ℕ) → from ≤ j → j < to → cell (now d) i j ≤ sumOf (via .0) (getD (now row) j 0)) ⌝ }
