@@ -2,7 +2,7 @@
 -- Assumes nothing.
 use Prim.Native.Nat.{ℕ, _+_, _<_}
 use mathlib.Core.Path.{_≡_, sym, _∙_}
-use mathlib.Core.Bool.{Bool, true, false}
+use mathlib.Core.Bool.{Bool, true, false, true≢false}
 use mathlib.Core.List.{List}
 use lib.IntN.{pos, subℕ, _+ℤ_, _*ℤ_}
 use native.Mathlib.Omega.{arith}
@@ -11,7 +11,6 @@ use Rattle.whole.specs.Whole.{plus, minus, _≤ℤ_, _<ℤ_}
 use Rattle.whole.proofs.Parts.{scaled, sub-parts}
 use Rattle.closure.specs.Closed.{AtMost, Below, TiedAt}
 use Rattle.closure.specs.Table.{Table}
-use Rattle.closure.proofs.Ties.{differ}
 use Rattle.table.specs.Cells.{cell, Kept, Inserted}
 use Rattle.order.specs.First.{Set}
 use Rattle.sheet.specs.Sheet.{Sheet, Term, Entry, WellFormed, countTerms, countEntries, termAt, entryAt}
@@ -64,7 +63,7 @@ entry-below {i = i} wf i< is = rw is (wf .left i i<, wf .right i i<)
 -- an entry outside the set is let be, and one in it is put in
 pub unmarked : {n : ℕ} {mark : Bool} {x : Entry} {old : List ℕ} → mark ≡ false → Table n (cell old)
     → Stepped n (MarkedTrue mark x) (MarkedHeld mark x) old old true
-unmarked e T = stayed T (record { entry = λ f. absurd (differ (sym f ∙ e)) })
+unmarked e T = stayed T (record { entry = λ f. absurd (true≢false (sym f ∙ e)) })
 
 pub marked : {n m : ℕ} {mark : Bool} {x y : Entry} {old new : List ℕ} {r : Bool} → mark ≡ true → m ≡ n → x ≡ y
     → Stepped m (λ D v. EntryTrue D v x) (λ k. EntryHeld k x) old new r → Stepped n (MarkedTrue mark y) (MarkedHeld mark y) old new r

@@ -1,8 +1,8 @@
 -- A bound put in is a step, steps follow one another, and what a table holds it still holds when it is tighter.
 -- Assumes nothing.
 use Prim.Native.Nat.{ℕ, _+_, _*_, _/_, _%_, _≤_, _<_}
-use mathlib.Core.Path.{_≡_, refl, sym, ap, _∙_}
-use mathlib.Core.Bool.{Bool, true, false}
+use mathlib.Core.Path.{_≡_, refl, sym, ap}
+use mathlib.Core.Bool.{Bool, true, false, true≢false}
 use mathlib.Core.List.{List}
 use lib.IntN.{ℤ}
 use native.Mathlib.Omega.{arith}
@@ -15,8 +15,8 @@ use Rattle.gap.proofs.Laws.{meets-sum, meets-tighter, under-none}
 use Rattle.closure.specs.Closed.{AtMost, Below, TiedAt}
 use Rattle.closure.specs.Table.{Table, step, reach}
 use Rattle.closure.proofs.Kept.{relaxed-holds}
-use Rattle.closure.proofs.Ties.{differ}
 use Rattle.table.specs.Cells.{cell, Kept, Inserted}
+use Rattle.table.proofs.Keeps.{kept-all, kept-on}
 use Rattle.sheet.specs.Sheet.{Term, Relation, equal, unequal, atMost, less, Entry, ArgumentsBelow, of-unknown, of-number, of-shift, of-apply, of-apply2}
 use Rattle.values.specs.Settled.{TermHeld, BoundHeld, EntryHeld}
 use Rattle.bounds.specs.Step.{Met, Went, Stepped, Weak, Strict}
@@ -32,9 +32,6 @@ Leaves = (ℕ → ℕ → ℕ) → Type 0
 -- e is as tight as d or tighter
 pub record Tighter (n : ℕ) (d e : ℕ → ℕ → ℕ) : Type 0 where
   pub at : (i j : ℕ) → i < n → j < n → e i j ≤ d i j
-
-pub kept-all : (n : ℕ) (d : List ℕ) → Kept n d d
-kept-all n d = record { right = λ i j p q. refl; below = λ k p. refl }
 
 -- a bound put in
 module _ (n : ℕ) (old new : List ℕ) (a b g : ℕ) (r : Bool) (a< : a < n) (b< : b < n) (g< : g < none) (near : Within step g)
@@ -90,7 +87,7 @@ changed asks leaves S =
 -- a refusal shows the same, whatever the table was to hold
 pub refused : {n : ℕ} {Q : Asks} {P P' : Leaves} {old new : List ℕ} {r : Bool} → r ≡ false → Stepped n Q P old new r
     → Stepped n Q P' old new false
-refused e S = record { went = λ f. absurd (differ (sym f)); refuted = λ f. S .refuted e; kept = S .kept }
+refused e S = record { went = λ f. absurd (true≢false (sym f)); refuted = λ f. S .refuted e; kept = S .kept }
 
 -- no step yet
 pub went-none : {n : ℕ} {Q : Asks} {P : Leaves} {old : List ℕ} → Table n (cell old) → P (cell old) → Went n Q P old old
@@ -98,7 +95,7 @@ went-none T p = record { table = T; tighter = λ i j i< j<. omega arith; met = �
 
 -- all steps done
 pub arrived : {n : ℕ} {Q : Asks} {P : Leaves} {old new : List ℕ} → Kept n old new → Went n Q P old new → Stepped n Q P old new true
-arrived K W = record { went = λ e. W; refuted = λ e. absurd (differ e); kept = K }
+arrived K W = record { went = λ e. W; refuted = λ e. absurd (true≢false e); kept = K }
 
 pub stayed : {n : ℕ} {Q : Asks} {P : Leaves} {old : List ℕ} → Table n (cell old) → P (cell old) → Stepped n Q P old old true
 stayed T p = arrived (kept-all _ _) (went-none T p)
@@ -119,11 +116,7 @@ followed first second both K W S =
             there = both _ _ (record { at = X .tighter }) (W .there) (X .there);
           };
       refuted = λ e D v D> M q. S .refuted e D v D> (W .met D v D> M (first D v q)) (second D v q);
-      kept =
-          record {
-            right = λ i j p q. S .kept .right i j p q ∙ K .right i j p q;
-            below = λ k p. S .kept .below k p ∙ K .below k p;
-          };
+      kept = kept-on K (S .kept);
     }
 
 -- what a table holds, a tighter one does

@@ -2,7 +2,7 @@
 -- Assumes nothing.
 use Prim.Native.Nat.{ℕ, _+_, _*_, _%_, _≤_, _<_, min}
 use mathlib.Core.Path.{_≡_, refl, sym, _∙_}
-use mathlib.Core.Bool.{Bool, true, false, cond}
+use mathlib.Core.Bool.{Bool, true, false, cond, true≢false}
 use mathlib.Core.Logic.{_↔_}
 use lib.IntN.{ℤ}
 use native.Mathlib.Decide.{ℕ-discrete}
@@ -13,18 +13,14 @@ use Rattle.gap.specs.Code.{base, none}
 use Rattle.gap.proofs.Codes.{sum-adds}
 use Rattle.closure.specs.Closed.{Closed, Tied, TiedAt, tie, tieOf}
 
--- no test has two answers
-pub differ : true ≡ false → ⊥
-differ e = let z : _≡_ {A = ℕ} 0 1 = cc in omega arith
-
 -- the test says that two points are tied
 pub tie-tied : (d : ℕ → ℕ → ℕ) (i j : ℕ) → tie (d i j) (d j i) ≡ true → Tied d i j
 tie-tied d i j h = go (ℕ-discrete (d i j % 2) 0) (ℕ-discrete (d i j + d j i) (base + base))
   where
     go : Dec (d i j % 2 ≡ 0) → Dec (d i j + d j i ≡ base + base) → Tied d i j
     go (yes e) (yes f) = record { even = e; back = f }
-    go (yes e) (no f) = absurd (differ (sym h ∙ simp (eq-eqb _ _ e, ne-eqb _ _ f)))
-    go (no e) f = absurd (differ (sym h ∙ simp (ne-eqb _ _ e)))
+    go (yes e) (no f) = absurd (true≢false (sym h ∙ simp (eq-eqb _ _ e, ne-eqb _ _ f)))
+    go (no e) f = absurd (true≢false (sym h ∙ simp (ne-eqb _ _ e)))
 
 pub tied-tie : (d : ℕ → ℕ → ℕ) (i j : ℕ) → Tied d i j → tie (d i j) (d j i) ≡ true
 tied-tie d i j t = simp (eq-eqb _ _ (t .even), eq-eqb _ _ (t .back))
@@ -34,7 +30,7 @@ tied? d i j = go (tie (d i j) (d j i)) refl
   where
     go : (b : Bool) → tie (d i j) (d j i) ≡ b → Dec (Tied d i j)
     go true e = yes (tie-tied d i j e)
-    go false e = no (λ t. differ (sym (tied-tie d i j t) ∙ e))
+    go false e = no (λ t. true≢false (sym (tied-tie d i j t) ∙ e))
 
 module _ (N R : ℕ) (d : ℕ → ℕ → ℕ) (C : Closed N R d) (i j : ℕ) (a : i < N) (b : j < N) where
   -- there and back is not under zero

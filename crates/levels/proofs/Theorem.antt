@@ -4,6 +4,7 @@ use Prim.Native.Nat.{ℕ, _+_, _*_, _%_, _≤_, _<_}
 use mathlib.Core.Path.{_≡_, sym, _∙_, ap}
 use mathlib.Core.Logic.{⊎-elim}
 use lib.IntN.{ℤ, pos, negsuc, _+ℤ_, _*ℤ_}
+use mathlib.Core.Bool.{true≢false}
 use native.Mathlib.Nat.{mul-le-mul-left, mod-eq-of-lt, add-mul-mod-self-left, eq-of-mul-eq-mul-right, mul-pos}
 use native.Mathlib.Omega.{arith}
 use Rattle.whole.specs.Whole.{plus, minus}
@@ -13,7 +14,7 @@ use Rattle.gap.specs.Code.{none, half}
 use Rattle.gap.specs.Meets.{Meets, wholeOf}
 use Rattle.gap.proofs.Flat.{meets}
 use Rattle.closure.specs.Closed.{Closed, Tied, tie}
-use Rattle.closure.proofs.Ties.{differ, tie-tied, tied-tie, tied?}
+use Rattle.closure.proofs.Ties.{tie-tied, tied-tie, tied?}
 use Rattle.levels.specs.Level.{wholeAt, totalOf, lowestOf, levelOf, valueOf}
 use Rattle.levels.specs.Values.{Values}
 use Rattle.levels.proofs.Sums.{sum-le, sum-lt}
@@ -48,7 +49,7 @@ module _ (N R : ℕ) (d : ℕ → ℕ → ℕ) (C : Closed N R d) where
       ⊎-elim (λ h. h)
       (λ h.
       let u : Tied d i q = tied-trans N R d C i q j a (omega (arith, lowest-below j)) b t (lowest-tied j b) in
-      absurd (differ (sym (tied-tie d i q u) ∙ first-low (λ k. tie (d i k) (d k i)) i 0 q (omega arith) h)))
+      absurd (true≢false (sym (tied-tie d i q u) ∙ first-low (λ k. tie (d i k) (d k i)) i 0 q (omega arith) h)))
       (order (lowestOf d i) q)
 
   abbrev x : ℕ → ℕ

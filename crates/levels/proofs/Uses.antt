@@ -6,7 +6,7 @@ use lib.IntN.{ℤ, pos, _+ℤ_, _*ℤ_}
 use native.Mathlib.Nat.{mul-le-mul}
 use native.Mathlib.Omega.{arith}
 use Rattle.whole.specs.Whole.{plus, minus}
-use Rattle.whole.proofs.Parts.{moved, sub-parts, parts-inj}
+use Rattle.whole.proofs.Parts.{plus-zero, sub-parts}
 use Rattle.gap.specs.Code.{half, base}
 use Rattle.gap.specs.Meets.{wholeOf}
 use Rattle.gap.proofs.Encode.{codeOf}
@@ -36,11 +36,8 @@ module _ (N R : ℕ) (d : ℕ → ℕ → ℕ) (z : ℕ) (n : ℕ → ℤ) (P : 
   pub untied-differ : (Tied d i j → ⊥) → (c : ℤ) → n i ≡ n j +ℤ c *ℤ pos (N * N) → ⊥
   untied-differ u c e = let (t, w) = P .apart i j c a b e in u t
 
-  by-zero : n j +ℤ pos 0 *ℤ pos (N * N) ≡ n j
-  by-zero = parts-inj _ _ (omega (arith, moved (n j) (pos 0) (N * N)))
-
   -- equal values are of points that are tied at 0: so applications of equal arguments are tied, and the values are loose
   pub equal-codes : n i ≡ n j → (d i j ≡ base) × (d j i ≡ base)
   equal-codes e =
-      let (p, q) = apart-codes (pos 0) (e ∙ sym by-zero) in
+      let (p, q) = apart-codes (pos 0) (e ∙ sym (plus-zero (n j) (N * N))) in
       (p, omega arith)

@@ -6,10 +6,9 @@ use mathlib.Core.Path.{_≡_, sym, _∙_}
 use mathlib.Core.Bool.{true, _&&_, and-eq-true-iff}
 use lib.Dec.{ltb}
 use lib.IntN.{ℤ, pos, _+ℤ_, _*ℤ_}
-use native.Mathlib.Omega.{arith}
 use borrow.Author.Tests.{ltb-true}
 use Rattle.whole.specs.Whole.{plus, minus}
-use Rattle.whole.proofs.Parts.{add-parts, moved, parts-inj}
+use Rattle.whole.proofs.Parts.{moved, plus-zero}
 use Rattle.order.specs.First.{Set}
 use Rattle.sheet.specs.Sheet.{Entry, Sheet, countTerms, countEntries, termAt, entryAt}
 use Rattle.meaning.specs.Meaning.{SameInput, EntryTrue, Meet}
@@ -18,9 +17,6 @@ use Rattle.meaning.specs.Meaning.{SameInput, EntryTrue, Meet}
 pub record Says (D : ℕ) (n : ℕ → ℤ) (e : Entry) : Type 0 where
   pub holds : EntryTrue D n e
   pub parts : plus (n (e .b) +ℤ e .c *ℤ pos D) + minus (n (e .b)) + minus (e .c) * D ≡ plus (n (e .b)) + plus (e .c) * D + minus (n (e .b) +ℤ e .c *ℤ pos D)
-
-pub plus-zero : (x : ℤ) (D : ℕ) → x +ℤ pos 0 *ℤ pos D ≡ x
-plus-zero x D = parts-inj _ _ (omega (arith, add-parts x (pos 0 *ℤ pos D)))
 
 module _ {s : Sheet} {S : Set} {D : ℕ} {n : ℕ → ℤ} (m : Meet s S D n) where
   pub says : (e : ℕ) → ltb e (countEntries s) && S e ≡ true → Says D n (entryAt s e)

@@ -10,7 +10,7 @@ use lib.Dec.{lit<}
 use lib.IntN.{ℤ, pos}
 use lib.ListN.{getD}
 use native.Mathlib.Omega.{arith}
-use Rattle.whole.proofs.Parts.{parts-inj}
+use Rattle.whole.proofs.Parts.{parts-inj, plus-zero}
 use Rattle.order.specs.First.{Set, every, setOf, number}
 use Rattle.order.proofs.Laws.{lower, number-ties, first-of, unique}
 use Rattle.sheet.specs.Sheet.{Sheet, countEntries}
@@ -19,7 +19,7 @@ use Rattle.meaning.specs.Lines.{line6}
 use Rattle.meaning.specs.Judged.{HoldsAll, ClashesFirst, Judged}
 use Rattle.meaning.proofs.Meaning.{clashes-upward}
 use Rattle.meaning.proofs.Check.{only-if, below, meets}
-use Rattle.meaning.proofs.Clash.{says, not-apart, plus-zero}
+use Rattle.meaning.proofs.Clash.{says, not-apart}
 
 abbrev model : (s : Sheet) (S : Set) → ℕ → List ℕ → Option (Holds s S)
 model s S D values =

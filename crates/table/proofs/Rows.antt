@@ -2,7 +2,7 @@
 -- Assumes nothing.
 use Prim.Native.Nat.{ℕ, _+_, _*_, _≤_, _<_}
 use mathlib.Core.Path.{_≡_, refl, sym, _∙_, ap}
-use mathlib.Core.Bool.{true, false}
+use mathlib.Core.Bool.{true, false, true≢false}
 use mathlib.Core.List.{List}
 use lib.ListN.{length, getD}
 use native.Mathlib.Decide.{decLt}
@@ -14,8 +14,8 @@ use Rattle.closure.specs.Closed.{RelaxedBy}
 use Rattle.closure.specs.Table.{Table, step, reach}
 use Rattle.closure.proofs.Kept.{wider, row-kept, held-kept}
 use Rattle.closure.proofs.Table as closure
-use Rattle.closure.proofs.Ties.{differ}
 use Rattle.table.specs.Cells.{stride, cells, cell, RowRelaxed, Put, Inserted}
+use Rattle.table.proofs.Keeps.{kept-all}
 
 -- the rows below m are relaxed by the bound g from a to b, and nothing else is changed
 pub record Rows (n : ℕ) (old d : List ℕ) (a b g m : ℕ) : Type 0 where
@@ -116,7 +116,7 @@ module _ (n : ℕ) (old : List ℕ) (a b g : ℕ) (A : Asked n old a b g) where
   implied h =
       let wide : Within (reach n) g = wider step (reach n) g (omega arith) near in
       record {
-        open· =
+        not-under =
             omega (
               arith,
               T .closed .same a a<,
@@ -133,7 +133,7 @@ module _ (n : ℕ) (old : List ℕ) (a b g : ℕ) (A : Asked n old a b g) where
                   );
             };
         table = T;
-        kept = record { right = λ i j p q. refl; below = λ k p. refl };
+        kept = kept-all n old;
       }
 
   -- where all rows are relaxed
@@ -141,7 +141,7 @@ module _ (n : ℕ) (old : List ℕ) (a b g : ℕ) (A : Asked n old a b g) where
   put new o R =
       let r : RelaxedBy n (cell old) (cell new) a b g = record { at = λ i j i< j<. R .at i i< j j< } in
       record {
-        open· = o;
+        not-under = o;
         relaxed = r;
         table = closure.relaxed n (cell old) (cell new) a b g a< b< (A .bound .0) near o r T;
         kept = record { right = R .right; below = R .below };
@@ -149,10 +149,10 @@ module _ (n : ℕ) (old : List ℕ) (a b g : ℕ) (A : Asked n old a b g) where
 
   -- the three answers
   pub inserted-held : cell old a b ≤ g → Inserted n old old a b g true
-  inserted-held h = record { put = λ e. implied h; shut = λ e. absurd (differ e) }
+  inserted-held h = record { put = λ e. implied h; shut = λ e. absurd (true≢false e) }
 
   pub inserted-not : sumOf g (cell old b a) < base → Inserted n old old a b g false
-  inserted-not u = record { put = λ e. absurd (differ (sym e)); shut = λ e. record { under = u; same = refl } }
+  inserted-not u = record { put = λ e. absurd (true≢false (sym e)); shut = λ e. record { under = u; same = refl } }
 
   pub inserted : (new : List ℕ) → base ≤ sumOf g (cell old b a) → Rows n old new a b g n → Inserted n old new a b g true
-  inserted new o R = record { put = λ e. put new o R; shut = λ e. absurd (differ e) }
+  inserted new o R = record { put = λ e. put new o R; shut = λ e. absurd (true≢false e) }

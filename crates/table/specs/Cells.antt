@@ -27,7 +27,7 @@ pub record Kept (n : ℕ) (old new : List ℕ) : Type 0 where
 
 -- new is old with no gap in the n cells from `at` on
 pub record Filled (old new : List ℕ) (at n : ℕ) : Type 0 where
-  pub at· : (j : ℕ) → j < n → getD new (at + j) 0 ≡ none
+  pub filled : (j : ℕ) → j < n → getD new (at + j) 0 ≡ none
   pub before : (k : ℕ) → k < at → getD new k 0 ≡ getD old k 0
   pub after : (k : ℕ) → at + n ≤ k → getD new k 0 ≡ getD old k 0
 
@@ -46,7 +46,7 @@ pub record RowRelaxed (old new row : List ℕ) (i via from to : ℕ) : Type 0 wh
 
 -- the bound g from a to b is put in: it closes no walk under zero, and the table is relaxed by it
 pub record Put (n : ℕ) (old new : List ℕ) (a b g : ℕ) : Type 0 where
-  pub open· : base ≤ sumOf g (cell old b a)
+  pub not-under : base ≤ sumOf g (cell old b a)
   pub relaxed : RelaxedBy n (cell old) (cell new) a b g
   pub table : Table n (cell new)
   pub kept : Kept n old new

@@ -2,13 +2,12 @@
 -- Assumes nothing.
 use Prim.Native.Nat.{ℕ, _+_, _<_}
 use mathlib.Core.Path.{_≡_, sym, ap}
-use mathlib.Core.Bool.{Bool, true, false}
+use mathlib.Core.Bool.{Bool, true, false, true≢false}
 use mathlib.Core.List.{[], _∷_}
 use native.Mathlib.Omega.{arith}
 use denote.Enum.Declared.{tagOf}
 use types.Run.{OneOf, miss}
 use Rattle.closure.specs.Closed.{TiedAt}
-use Rattle.closure.proofs.Ties.{differ}
 use Rattle.order.specs.First.{Set}
 use Rattle.sheet.specs.declared.Entry.{Entry as Code-Entry}
 use Rattle.sheet.specs.declared.Relation.{Relation as Code-Relation}
@@ -28,7 +27,7 @@ ends e W i< h counted =
 -- a ≠ entry
 pub unequal-told : {d : ℕ → ℕ → ℕ} {r : Bool} (e : Code-Entry) → e .relation ≡ Unequal
     → Decides (TiedAt d (e .a .0) (e .b .0) (biasedSays (e .c))) r → Decides (Broken d (entrySays e)) r
-unequal-told e h = told (λ t. record { unequal· = ap relationSays h; tied = t }) (λ b. b .tied)
+unequal-told e h = told (λ t. record { is-unequal = ap relationSays h; tied = t }) (λ b. b .tied)
 
 -- any other
 other : (r : Code-Relation) → OneOf (0 ∷ 2 ∷ 3 ∷ []) (tagOf the-type r) → relationSays r ≡ unequal → ⊥
@@ -38,11 +37,11 @@ other AtMost h e = let z : _≡_ {A = ℕ} 0 1 = cc in omega arith
 other Less h e = let z : _≡_ {A = ℕ} 0 1 = cc in omega arith
 
 pub other-told : {d : ℕ → ℕ → ℕ} (e : Code-Entry) → OneOf (0 ∷ 2 ∷ 3 ∷ []) (tagOf the-type (e .relation)) → Decides (Broken d (entrySays e)) false
-other-told e h = refuted (λ b. other (e .relation) h (b .unequal·))
+other-told e h = refuted (λ b. other (e .relation) h (b .is-unequal))
 
 module _ {s : Sheet} {S : Set} {d : ℕ → ℕ → ℕ} where
   pub found : {e : ℕ} → e < countEntries s → (S e ≡ true) × Broken d (entryAt s e) → Checked s S d false
-  found {e} e< b = record { apart = λ h. absurd (differ (sym h)); broken = λ h. record { e = e; below = e<; marked = b .0; broken = b .1 } }
+  found {e} e< b = record { apart = λ h. absurd (true≢false (sym h)); broken = λ h. record { e = e; below = e<; marked = b .0; broken = b .1 } }
 
   pub none : ((e : ℕ) → e < countEntries s → (S e ≡ true) × Broken d (entryAt s e) → ⊥) → Checked s S d true
-  none h = record { apart = λ x e e< m u t. h e e< (m, record { unequal· = u; tied = t }); broken = λ x. absurd (differ x) }
+  none h = record { apart = λ x e e< m u t. h e e< (m, record { is-unequal = u; tied = t }); broken = λ x. absurd (true≢false x) }

@@ -2,7 +2,7 @@
 -- Assumes nothing.
 use Prim.Native.Nat.{ℕ, _+_, _*_, _-_, _<_}
 use mathlib.Core.Path.{_≡_, sym}
-use mathlib.Core.Bool.{Bool, false}
+use mathlib.Core.Bool.{Bool, false, true≢false}
 use lib.Dec.{eqb}
 use lib.IntN.{subℕ}
 use native.Mathlib.Omega.{arith}
@@ -11,11 +11,11 @@ use Rattle.whole.specs.Whole.{plus, minus}
 use Rattle.whole.proofs.Parts.{sub-parts}
 use Rattle.gap.specs.Code.{base}
 use Rattle.closure.specs.Closed.{Closed, TiedAt, tieOf}
-use Rattle.closure.proofs.Ties.{differ, tie-at}
+use Rattle.closure.proofs.Ties.{tie-at}
 use Rattle.ties.specs.Ties.{Decides}
 
 pub refuted : {A : Type 0} → (A → ⊥) → Decides A false
-refuted n = record { yes = λ e. absurd (differ (sym e)); no = λ e. n }
+refuted n = record { yes = λ e. absurd (true≢false (sym e)); no = λ e. n }
 
 -- a test of what is the same
 pub told : {A B : Type 0} {r : Bool} → (A → B) → (B → A) → Decides A r → Decides B r

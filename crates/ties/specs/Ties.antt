@@ -29,7 +29,7 @@ Joined d t u = SameInput (λ a b. TiedAt d a b (pos 0)) t u
 
 -- a ≠ entry on terms tied at exactly its c
 pub record Broken (d : ℕ → ℕ → ℕ) (e : Entry) : Type 0 where
-  pub unequal· : e .relation ≡ unequal
+  pub is-unequal : e .relation ≡ unequal
   pub tied : TiedAt d (e .a) (e .b) (e .c)
 
 abbrev pub BrokenAt : Sheet → Set → (ℕ → ℕ → ℕ) → ℕ → Type 0

@@ -3,10 +3,10 @@
 -- Assumes nothing.
 use Prim.Native.Nat.{ℕ, _+_, _*_, _<_}
 use mathlib.Core.Path.{_≡_, refl, _∙_, ap}
-use lib.IntN.{ℤ, pos, _+ℤ_, _*ℤ_}
+use lib.IntN.{ℤ, pos, _+ℤ_, _*ℤ_, +ℤ-idl}
 use native.Mathlib.Nat.{mul-pos}
 use native.Mathlib.Omega.{arith}
-use Rattle.whole.proofs.Parts.{add-parts, parts-inj}
+use Rattle.whole.proofs.Parts.{plus-zero}
 use Rattle.closure.specs.Closed.{TiedAt}
 use Rattle.closure.specs.Table.{reach}
 use Rattle.levels.specs.Level.{valueOf}
@@ -17,12 +17,8 @@ use Rattle.order.specs.First.{Set}
 use Rattle.sheet.specs.Sheet.{Term, unknown, number, shift, apply, apply2, Relation, equal, unequal, atMost, less, Sheet, countTerms, termAt, ArgumentsBelow, of-shift, WellFormed}
 use Rattle.meaning.specs.Meaning.{Defined, SameInput, Compares, Meet}
 use Rattle.meaning.proofs.Meaning.{same-input-below}
-use Rattle.meaning.proofs.Clash.{plus-zero}
 use Rattle.values.specs.Settled.{zeroLevel, points, TermHeld, BoundHeld, Settled}
 use Rattle.values.proofs.Held.{at-most-met, below-met, tied-met}
-
-zero-plus : (x : ℤ) → pos 0 +ℤ x ≡ x
-zero-plus x = parts-inj _ _ (omega (arith, add-parts (pos 0) x))
 
 module _ (s : Sheet) (S : Set) (d : ℕ → ℕ → ℕ) (W : WellFormed s) (H : Settled s S d) where
   abbrev N : ℕ
@@ -71,7 +67,7 @@ module _ (s : Sheet) (S : Set) (d : ℕ → ℕ → ℕ) (W : WellFormed s) (H :
   defined : (i : ℕ) (t : Term) → i < countTerms s → ArgumentsBelow i t → TermHeld d (zeroLevel s) i t → Defined D n (n i) t
   defined i unknown l b h = tt
   defined i (number c) l b h =
-      tied i (zeroLevel s) (omega arith) (omega arith) c h ∙ ap (λ (x : ℤ). x +ℤ c *ℤ pos D) (P .zero) ∙ zero-plus (c *ℤ pos D)
+      tied i (zeroLevel s) (omega arith) (omega arith) c h ∙ ap (λ (x : ℤ). x +ℤ c *ℤ pos D) (P .zero) ∙ +ℤ-idl (c *ℤ pos D)
   defined i (shift a c) l (of-shift k) h = tied i a (omega arith) (omega arith) c h
   defined i (apply symbol a) l b h = tt
   defined i (apply2 symbol a b) l k h = tt

@@ -2,7 +2,7 @@
 -- holds; a refusal on the way leaves no levels that meet the sheet, so the set clashes.
 -- Assumes nothing.
 use Prim.Native.Nat.{ℕ, _+_, _<_}
-use mathlib.Core.Path.{_≡_, refl, _∙_}
+use mathlib.Core.Path.{_≡_, refl}
 use mathlib.Core.Bool.{Bool, true, false}
 use mathlib.Core.List.{List}
 use lib.IntN.{ℤ}
@@ -11,6 +11,7 @@ use native.Mathlib.Omega.{arith}
 use Rattle.gap.specs.Meets.{Meets}
 use Rattle.gap.proofs.Laws.{meets-zero, meets-none}
 use Rattle.table.specs.Cells.{cell, Kept, Started}
+use Rattle.table.proofs.Keeps.{kept-on}
 use Rattle.order.specs.First.{Set}
 use Rattle.sheet.specs.Sheet.{Sheet, countTerms, countEntries, entryAt, WellFormed}
 use Rattle.values.specs.Settled.{points, Settled}
@@ -83,9 +84,7 @@ module _ (s : Sheet) (S : Set) (W : WellFormed s) where
     fresh-met D v = rw (← m-is) (started-met (m + 1) D v old d F)
 
     kept : {P : Leaves} {new : List ℕ} {r : Bool} → Toward P d new r → Kept (points s) old new
-    kept A =
-        let K : Kept (points s) old d = rw m-is at (F .kept) in
-        record { right = λ i j p q. A .kept .right i j p q ∙ K .right i j p q; below = λ k p. A .kept .below k p ∙ K .below k p }
+    kept A = kept-on (rw m-is at (F .kept)) (A .kept)
 
     -- a refusal on the way
     pub refused : {P : Leaves} {new : List ℕ} {r : Bool} → Toward P d new r → r ≡ false → Judged s S (cell new) Clashes × Kept (points s) old new

@@ -2,21 +2,20 @@
 -- Assumes nothing.
 use Prim.Native.Nat.{ℕ, _+_, _≤_, _<_}
 use mathlib.Core.Path.{_≡_, refl, sym, _∙_, ap}
-use mathlib.Core.Bool.{Bool, true, false}
+use mathlib.Core.Bool.{Bool, true, false, true≢false}
 use mathlib.Core.Logic.{⊎-elim}
 use mathlib.Core.List.{List}
 use lib.IntN.{ℤ, pos}
 use native.Mathlib.Nat.{eq-or-lt-of-le}
 use native.Mathlib.Omega.{arith}
 use Rattle.whole.proofs.Order.{order}
+use Rattle.whole.proofs.Parts.{plus-zero}
 use Rattle.closure.specs.Closed.{Closed, TiedAt}
 use Rattle.closure.specs.Table.{reach}
-use Rattle.closure.proofs.Ties.{differ}
 use Rattle.table.specs.Cells.{cell}
 use Rattle.sheet.specs.Sheet.{Term, Sheet, countTerms, termAt, ArgumentsBelow, of-unknown, of-number, of-shift, of-apply, of-apply2, WellFormed}
 use Rattle.meaning.specs.Meaning.{one, two}
 use Rattle.meaning.proofs.Meaning.{same-input-below}
-use Rattle.meaning.proofs.Clash.{plus-zero}
 use Rattle.values.specs.Settled.{points, Saturated}
 use Rattle.values.proofs.Held.{tied-met}
 use Rattle.bounds.specs.Step.{Met, Stepped}
@@ -71,8 +70,8 @@ module _ (s : Sheet) (W : WellFormed s) (i j : ℕ) (i< : i < countTerms s) (j< 
 
 -- a term that is no application has the same input as none
 no-input : {d : ℕ → ℕ → ℕ} {t u : Term} → isApplication t ≡ false → Joined d t u → ⊥
-no-input e (one p) = differ e
-no-input e (two p q) = differ e
+no-input e (one p) = true≢false e
+no-input e (two p q) = true≢false e
 
 pub no-application : {s : Sheet} {i : ℕ} {old : List ℕ} {t : Term} {r : Bool} → t ≡ termAt s i → r ≡ isApplication t → r ≡ false
     → Passing s (RowTied s i) old old Still

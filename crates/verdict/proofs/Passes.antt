@@ -1,14 +1,14 @@
 -- Passes one after the other: what a loop over pairs keeps, and what it answers.
 -- Assumes nothing.
 use Prim.Native.Nat.{ℕ, _+_, _<_}
-use mathlib.Core.Path.{_≡_, refl, sym, _∙_}
-use mathlib.Core.Bool.{Bool, true, false, _||_}
+use mathlib.Core.Path.{_≡_, refl, sym}
+use mathlib.Core.Bool.{Bool, true, false, _||_, true≢false}
 use mathlib.Core.List.{List}
 use native.Mathlib.Omega.{arith}
 use borrow.Author.Count.{below-more}
 use Rattle.closure.specs.Table.{Table}
-use Rattle.closure.proofs.Ties.{differ}
-use Rattle.table.specs.Cells.{cell, Kept}
+use Rattle.table.specs.Cells.{cell}
+use Rattle.table.proofs.Keeps.{kept-on}
 use Rattle.sheet.specs.Sheet.{Sheet}
 use Rattle.values.specs.Settled.{points}
 use Rattle.bounds.specs.Step.{Stepped}
@@ -16,9 +16,6 @@ use Rattle.bounds.proofs.Steps.{Leaves, arrived, followed}
 use Rattle.verdict.specs.declared.Passed.{Passed}
 use Rattle.verdict.specs.declared.Passed.the-variants.{Clash}
 use Rattle.verdict.specs.Passing.{FunctionsTrue, EachTied, total, Passing, clash, tied, still, isClash, isNew, passedOf}
-
-pub kept-on : {n : ℕ} {old mid new : List ℕ} → Kept n old mid → Kept n mid new → Kept n old new
-kept-on A B = record { right = λ i j p q. B .right i j p q ∙ A .right i j p q; below = λ k p. B .below k p ∙ A .below k p }
 
 module _ (s : Sheet) where
   -- a step that passes equalities on
@@ -43,7 +40,7 @@ module _ (s : Sheet) where
   -- one more pass that found no clash
   pub more : {P : ℕ → Leaves} {old d new : List ℕ} {b : Bool} {m : ℕ} {r : Passed} → Sofar P old d b m → Passing s (P m) d new r
       → isClash r ≡ false → Sofar P old new (b || isNew r) (m + 1)
-  more S (clash R K) e = absurd (differ e)
+  more S (clash R K) e = absurd (true≢false e)
   more (fresh p l) (tied w k f) e = fresh (on p (arrived k w)) (omega arith)
   more (fresh p l) (still q) e = fresh p l
   more (same T h) (tied w k f) e = fresh (arrived k w) f
@@ -59,5 +56,5 @@ module _ (s : Sheet) where
       → Sofar P old d b m → Passing s Q d new r → isClash r ≡ true → Passing s P' old new Clash
   clash-after (fresh p l) (clash R K) e = clash (λ D v D> M q. R D v D> (p .went refl .met D v D> M q) q) (kept-on (p .kept) K)
   clash-after (same T h) (clash R K) e = clash R K
-  clash-after S (tied w k f) e = absurd (differ (sym e))
-  clash-after S (still q) e = absurd (differ (sym e))
+  clash-after S (tied w k f) e = absurd (true≢false (sym e))
+  clash-after S (still q) e = absurd (true≢false (sym e))

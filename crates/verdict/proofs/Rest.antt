@@ -2,11 +2,10 @@
 -- Assumes nothing.
 use Prim.Native.Nat.{ℕ, _≤_, _<_}
 use mathlib.Core.Path.{_≡_, sym}
-use mathlib.Core.Bool.{Bool, true, false}
+use mathlib.Core.Bool.{Bool, true, false, true≢false}
 use mathlib.Core.List.{List}
 use lib.IntN.{ℤ}
 use native.Mathlib.Omega.{arith}
-use Rattle.closure.proofs.Ties.{differ}
 use Rattle.table.specs.Cells.{cell}
 use Rattle.order.specs.First.{Set}
 use Rattle.sheet.specs.Sheet.{Sheet, entryAt, WellFormed}
@@ -20,7 +19,7 @@ module _ (s : Sheet) (S : Set) (W : WellFormed s) {old new : List ℕ} {r : Bool
   pub not-passed : r ≡ false → RestPut s S old new false
   not-passed e =
       record {
-        went = λ f. absurd (differ (sym f));
+        went = λ f. absurd (true≢false (sym f));
         refuted = λ f D v D> M q. A .refuted e D v D> M (q .functions);
         kept = A .kept;
       }
@@ -33,7 +32,7 @@ module _ (s : Sheet) (S : Set) (W : WellFormed s) {old new : List ℕ} {r : Bool
         let T : Met (points s) D (cell new) v = A .went e .met D v D> M (q .functions) in
         let l : entryAt s (b .e) .a < points s = omega (arith, W .left (b .e) (b .below)) in
         let k : entryAt s (b .e) .b < points s = omega (arith, W .right (b .e) (b .below)) in
-        (rw (b .broken .unequal·) at (q .entries .entries (b .e) (b .below) (b .marked)))
+        (rw (b .broken .is-unequal) at (q .entries .entries (b .e) (b .below) (b .marked)))
         (tied-met _ (b .broken .tied) (T .met _ _ l k) (T .met _ _ k l))
 
     pub passed : RestPut s S old new sound

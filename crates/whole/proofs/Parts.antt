@@ -55,3 +55,7 @@ moved y c D = omega (arith, add-parts y (c *ℤ pos D), mul-plus c D, mul-minus 
 pub scaled : (a b D : ℕ) (y : ℤ) →
     plus (y +ℤ subℕ a b *ℤ pos D) + minus y + b * D ≡ plus y + a * D + minus (y +ℤ subℕ a b *ℤ pos D)
 scaled a b D y = omega (arith, moved y (subℕ a b) D, ap (λ (n : ℕ). n * D) (sub-parts a b))
+
+-- and by 0, not at all
+pub plus-zero : (y : ℤ) (D : ℕ) → y +ℤ pos 0 *ℤ pos D ≡ y
+plus-zero y D = parts-inj _ _ (omega (arith, moved y (pos 0) D))

@@ -21,7 +21,7 @@ abbrev μ-loop : tie.MeasureT-loop
 one-more : (old d : List ℕ) (at j : ℕ) → at + j < length d → Filled old d at j → Filled old (set d (at + j) none) at (j + 1)
 one-more old d at j h F =
     record {
-      at· = below-more _ j (λ k l. getD-set-other d (at + j) (at + k) none 0 (omega arith) ∙ F .at· k l) (getD-set-same d (at + j) none 0 h);
+      filled = below-more _ j (λ k l. getD-set-other d (at + j) (at + k) none 0 (omega arith) ∙ F .filled k l) (getD-set-same d (at + j) none 0 h);
       before = λ k l. getD-set-other d (at + j) k none 0 (omega arith) ∙ F .before k l;
       after = λ k l. getD-set-other d (at + j) k none 0 (omega arith) ∙ F .after k (omega arith);
     }
@@ -30,7 +30,7 @@ at-end : (c : tie.After-loop Inv-loop μ-loop) → c .before .loop .j ≡ c .bef
 at-end c = omega arith
 
 loop-holds : tie.Need-loop-holds Inv-loop μ-loop
-loop-holds c = (omega arith, refl, record { at· = λ j h. absurd (omega arith); before = λ k h. refl; after = λ k h. refl })
+loop-holds c = (omega arith, refl, record { filled = λ j h. absurd (omega arith); before = λ k h. refl; after = λ k h. refl })
 
 loop-again : tie.Need-loop-again Inv-loop μ-loop
 loop-again c =

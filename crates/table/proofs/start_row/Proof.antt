@@ -15,7 +15,7 @@ with-zero : (old d : List ℕ) (i n : ℕ) → i < n → i * stride + i < length
 with-zero old d i n h l F =
     record {
       same = getD-set-same d (i * stride + i) base 0 l;
-      apart = λ j p ne. getD-set-other d (i * stride + i) (i * stride + j) base 0 (λ e. ne (omega arith)) ∙ F .at· j p;
+      apart = λ j p ne. getD-set-other d (i * stride + i) (i * stride + j) base 0 (λ e. ne (omega arith)) ∙ F .filled j p;
       before = λ k p. getD-set-other d (i * stride + i) k base 0 (omega arith) ∙ F .before k p;
       after = λ k p. getD-set-other d (i * stride + i) k base 0 (omega arith) ∙ F .after k p;
     }

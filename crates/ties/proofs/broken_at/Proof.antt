@@ -1,17 +1,17 @@
 -- `ties::broken_at` meets its contract: an entry out of the set is not looked at.
 -- Assumes nothing.
 use mathlib.Core.Path.{sym, _∙_}
+use mathlib.Core.Bool.{true≢false}
 use native.Mathlib.Omega.{arith}
 use borrow.Author.Needs.{needs}
 use borrow.Author.Tests.{not-true, not-false}
-use Rattle.closure.proofs.Ties.{differ}
 use Rattle.ties.proofs.Tests.{refuted, rest}
 use Rattle.ties.proofs.Entries.{ends}
 use Rattle.ties.proofs.broken_at.Statement.{statement}
 use Rattle.ties.proofs.broken_at.Tie as tie
 
 returns : tie.Need-returns
-returns c = refuted (λ p. differ (sym (p .0) ∙ not-true _ (c .if1 .taken)))
+returns c = refuted (λ p. true≢false (sym (p .0) ∙ not-true _ (c .if1 .taken)))
 
 is-broken-requires : tie.Need-is-broken-requires
 is-broken-requires c κs =
