@@ -55,11 +55,6 @@ tie-put c a< b< T w I e w' I' =
     (λ d e t p q. record { to = at-most-tighter t a< b< p; back = q })
     (S .kept) (S .went e) (at-least-put c a< b< (I .put e .table) w' I')
 
--- an entry of a sheet is on points of it
-pub entry-below : {s : Sheet} {i : ℕ} {x : Entry} → WellFormed s → i < countEntries s → x ≡ entryAt s i
-    → (x .a < countTerms s) × (x .b < countTerms s)
-entry-below {i = i} wf i< is = rw is (wf .left i i<, wf .right i i<)
-
 -- an entry outside the set is let be, and one in it is put in
 pub unmarked : {n : ℕ} {mark : Bool} {x : Entry} {old : List ℕ} → mark ≡ false → Table n (cell old)
     → Stepped n (MarkedTrue mark x) (MarkedHeld mark x) old old true

@@ -1,6 +1,6 @@
 -- When an entry is broken, as the code's entries say it, and when one of a set is.
 -- Assumes nothing.
-use Prim.Native.Nat.{ℕ, _+_, _<_}
+use Prim.Native.Nat.{ℕ, _<_}
 use mathlib.Core.Path.{_≡_, sym, ap}
 use mathlib.Core.Bool.{Bool, true, false, true≢false}
 use mathlib.Core.List.{[], _∷_}
@@ -12,17 +12,11 @@ use Rattle.order.specs.First.{Set}
 use Rattle.sheet.specs.declared.Entry.{Entry as Code-Entry}
 use Rattle.sheet.specs.declared.Relation.{Relation as Code-Relation}
 use Rattle.sheet.specs.declared.Relation.the-variants.{Equal, Unequal, AtMost, Less}
-use Rattle.sheet.specs.Sheet.{unequal, Entry, Sheet, WellFormed, countTerms, countEntries, entryAt}
+use Rattle.sheet.specs.Sheet.{unequal, Sheet, countEntries, entryAt}
 use Rattle.sheet.specs.Says.{biasedSays, relationSays, entrySays}
 use Rattle.sheet.proofs.Relation.{the-type}
 use Rattle.ties.specs.Ties.{Decides, Broken, Checked}
 use Rattle.ties.proofs.Tests.{refuted, told}
-
--- the terms of an entry
-pub ends : {s : Sheet} {i n : ℕ} (e : Code-Entry) → WellFormed s → i < countEntries s → entrySays e ≡ entryAt s i → n ≡ countTerms s
-    → (e .a .0 < n + 1) × (e .b .0 < n + 1)
-ends e W i< h counted =
-    (omega (arith, W .left _ i<, ap (λ (x : Entry). x .a) h), omega (arith, W .right _ i<, ap (λ (x : Entry). x .b) h))
 
 -- a ≠ entry
 pub unequal-told : {d : ℕ → ℕ → ℕ} {r : Bool} (e : Code-Entry) → e .relation ≡ Unequal

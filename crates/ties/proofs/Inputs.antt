@@ -2,7 +2,7 @@
 -- Assumes nothing.
 use Prim.Native.Nat.{ℕ, _<_}
 use mathlib.Core.Path.{_≡_, refl}
-use mathlib.Core.Bool.{Bool, false}
+use mathlib.Core.Bool.{Bool, false, true≢false}
 use mathlib.Core.List.{[], _∷_}
 use lib.IntN.{pos}
 use denote.Enum.Declared.{tagOf}
@@ -14,7 +14,7 @@ use Rattle.sheet.specs.Sheet.{Term, apply, apply2, ArgumentsBelow, of-apply, of
 use Rattle.sheet.specs.Says.{termSays}
 use Rattle.sheet.proofs.Term.{the-type}
 use Rattle.meaning.specs.Meaning.{one, two}
-use Rattle.ties.specs.Ties.{Decides, Joined}
+use Rattle.ties.specs.Ties.{Decides, Joined, isApplication}
 use Rattle.ties.proofs.Tests.{refuted, told}
 
 pub argument : {n f a : ℕ} → ArgumentsBelow n (apply f a) → a < n
@@ -57,9 +57,13 @@ module _ {d : ℕ → ℕ → ℕ} where
   other-two (Apply g a) h = refuted (λ s. elim s [ ])
   other-two (Apply2 g a b) h = absurd (miss (0 ∷ 1 ∷ 2 ∷ 3 ∷ []) 4 tt h)
 
+  pub no-input : {t u : Term} → isApplication t ≡ false → Joined d t u → ⊥
+  no-input e (one p) = true≢false e
+  no-input e (two p q) = true≢false e
+
   pub no-application : {u : Term} (t : Code-Term) → OneOf (0 ∷ 1 ∷ 2 ∷ []) (tagOf the-type t) → Decides (Joined d (termSays t) u) false
-  no-application Unknown h = refuted (λ s. elim s [ ])
-  no-application (Number c) h = refuted (λ s. elim s [ ])
-  no-application (Shift a c) h = refuted (λ s. elim s [ ])
+  no-application Unknown h = refuted (no-input refl)
+  no-application (Number c) h = refuted (no-input refl)
+  no-application (Shift a c) h = refuted (no-input refl)
   no-application (Apply g a) h = absurd (miss (0 ∷ 1 ∷ 2 ∷ []) 3 tt h)
   no-application (Apply2 g a b) h = absurd (miss (0 ∷ 1 ∷ 2 ∷ []) 4 tt h)

@@ -1,8 +1,8 @@
 -- One pair of terms: the three answers of a pass over it, and that a table in which no pair is left to tie is saturated.
 -- Assumes nothing.
-use Prim.Native.Nat.{ℕ, _+_, _≤_, _<_}
+use Prim.Native.Nat.{ℕ, _+_, _<_}
 use mathlib.Core.Path.{_≡_, refl, sym, _∙_, ap}
-use mathlib.Core.Bool.{Bool, true, false, true≢false}
+use mathlib.Core.Bool.{Bool, true, false}
 use mathlib.Core.Logic.{⊎-elim}
 use mathlib.Core.List.{List}
 use lib.IntN.{ℤ, pos}
@@ -13,7 +13,7 @@ use Rattle.whole.proofs.Parts.{plus-zero}
 use Rattle.closure.specs.Closed.{Closed, TiedAt}
 use Rattle.closure.specs.Table.{reach}
 use Rattle.table.specs.Cells.{cell}
-use Rattle.sheet.specs.Sheet.{Term, Sheet, countTerms, termAt, ArgumentsBelow, of-unknown, of-number, of-shift, of-apply, of-apply2, WellFormed}
+use Rattle.sheet.specs.Sheet.{Term, Sheet, countTerms, termAt, WellFormed}
 use Rattle.meaning.specs.Meaning.{one, two}
 use Rattle.meaning.proofs.Meaning.{same-input-below}
 use Rattle.values.specs.Settled.{points, Saturated}
@@ -21,6 +21,7 @@ use Rattle.values.proofs.Held.{tied-met}
 use Rattle.bounds.specs.Step.{Met, Stepped}
 use Rattle.bounds.specs.True.{TieTrue}
 use Rattle.ties.specs.Ties.{Decides, isApplication, Joined}
+use Rattle.ties.proofs.Inputs.{no-input}
 use Rattle.verdict.specs.declared.Passed.the-variants.{Clash, New, Still}
 use Rattle.verdict.specs.Passing.{FunctionsTrue, PairTied, RowTied, AllTied, Passing, clash, tied, still, putOf}
 use Rattle.verdict.proofs.Total.{falls}
@@ -68,22 +69,10 @@ module _ (s : Sheet) (W : WellFormed s) (i j : ℕ) (i< : i < countTerms s) (j< 
             go true f = tied-now f not
             go false f = refused f
 
--- a term that is no application has the same input as none
-no-input : {d : ℕ → ℕ → ℕ} {t u : Term} → isApplication t ≡ false → Joined d t u → ⊥
-no-input e (one p) = true≢false e
-no-input e (two p q) = true≢false e
-
+-- a term that is no application has nothing to be tied by
 pub no-application : {s : Sheet} {i : ℕ} {old : List ℕ} {t : Term} {r : Bool} → t ≡ termAt s i → r ≡ isApplication t → r ≡ false
     → Passing s (RowTied s i) old old Still
 no-application e f g = still (record { each = λ j l. record { tied = λ J. absurd (no-input (ap isApplication (sym e) ∙ sym f ∙ g) J) } })
-
--- arguments below i are below what i is
-pub arguments : {i n : ℕ} {t : Term} → i ≤ n → ArgumentsBelow i t → ArgumentsBelow n t
-arguments l of-unknown = of-unknown
-arguments l of-number = of-number
-arguments l (of-shift {a} h) = of-shift {a = a} (omega arith)
-arguments l (of-apply {a = a} h) = of-apply {a = a} (omega arith)
-arguments l (of-apply2 {a = a} {b} h k) = of-apply2 {a = a} {b = b} (omega arith) (omega arith)
 
 -- tied at 0 is tied at 0 from either side
 back : {d : ℕ → ℕ → ℕ} {a b : ℕ} → TiedAt d a b (pos 0) → TiedAt d b a (pos 0)

@@ -5,7 +5,8 @@ use mathlib.Core.Path.{ap}
 use native.Mathlib.Omega.{arith}
 use borrow.Author.Needs.{needs}
 use borrow.Author.Tests.{not-true, not-false}
-use Rattle.bounds.proofs.Parts.{entry-below, unmarked, marked}
+use Rattle.sheet.proofs.Below.{entry-below}
+use Rattle.bounds.proofs.Parts.{unmarked, marked}
 use Rattle.bounds.proofs.put_marked.Statement.{statement}
 use Rattle.bounds.proofs.put_marked.Tie as tie
 

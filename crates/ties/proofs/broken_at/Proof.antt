@@ -5,8 +5,8 @@ use mathlib.Core.Bool.{true≢false}
 use native.Mathlib.Omega.{arith}
 use borrow.Author.Needs.{needs}
 use borrow.Author.Tests.{not-true, not-false}
+use Rattle.sheet.proofs.Below.{entry-below}
 use Rattle.ties.proofs.Tests.{refuted, rest}
-use Rattle.ties.proofs.Entries.{ends}
 use Rattle.ties.proofs.broken_at.Statement.{statement}
 use Rattle.ties.proofs.broken_at.Tie as tie
 
@@ -16,10 +16,9 @@ returns c = refuted (λ p. true≢false (sym (p .0) ∙ not-true _ (c .if1 .take
 is-broken-requires : tie.Need-is-broken-requires
 is-broken-requires c κs =
     let start = c .before .before .before .before .before .before .before .before in
-    let counted = c .before .count-terms .ensures .0 in (
-      (start .pre .1 .0 .2, omega arith, rw counted (start .pre .1 .1)),
-      ends (c .entry-at .result) (start .pre .0 .1) (start .pre .1 .0 .0) (c .entry-at .ensures) counted,
-    )
+    let counted = c .before .count-terms .ensures .0 in
+    let below = entry-below (start .pre .0 .1) (start .pre .1 .0 .0) (c .entry-at .ensures) in
+    ((start .pre .1 .0 .2, omega arith, rw counted (start .pre .1 .1)), (omega (arith, below), omega (arith, below)))
 
 returns-2 : tie.Need-returns-2
 returns-2 c = rest (not-false _ (c .before .before .before .if1 .left)) (rw (c .before .entry-at .ensures) at (c .is-broken .ensures))

@@ -3,8 +3,9 @@
 use native.Mathlib.Omega.{arith}
 use borrow.Author.Needs.{needs}
 use borrow.Author.Tests.{not-true, not-false}
+use Rattle.sheet.proofs.Below.{arguments-wider}
 use Rattle.verdict.specs.Passing.{still}
-use Rattle.verdict.proofs.Pairs.{not-joined, joined, arguments}
+use Rattle.verdict.proofs.Pairs.{not-joined, joined}
 use Rattle.verdict.proofs.pass_pair.Statement.{statement}
 use Rattle.verdict.proofs.pass_pair.Tie as tie
 
@@ -17,8 +18,8 @@ same-input-requires c κs =
     let wf = start .pre .0 .1 in (
       (start .pre .1 .0, omega (arith, wf .terms), rw (counted .count-terms .ensures .0) (start .pre .1 .1 .closed)),
       (
-        rw (first .term-at .ensures) (arguments (omega arith) (wf .arguments (start .args .i) (omega arith))),
-        rw (second .term-at2 .ensures) (arguments (omega arith) (wf .arguments (start .args .j) (omega arith))),
+        rw (first .term-at .ensures) (arguments-wider (omega arith) (wf .arguments (start .args .i) (omega arith))),
+        rw (second .term-at2 .ensures) (arguments-wider (omega arith) (wf .arguments (start .args .j) (omega arith))),
       ),
     )
 
