@@ -13,15 +13,15 @@ use Rattle.gap.proofs.Laws.{meets-zero, meets-none}
 use Rattle.table.specs.Cells.{cell, Kept, Started}
 use Rattle.table.proofs.Keeps.{kept-on}
 use Rattle.order.specs.First.{Set}
-use Rattle.sheet.specs.Sheet.{Sheet, countTerms, countEntries, entryAt, WellFormed}
+use Rattle.sheet.specs.Sheet.{Sheet, countTerms, WellFormed}
 use Rattle.values.specs.Settled.{points, Settled}
 use Rattle.values.proofs.Meet.{settled-meets}
 use Rattle.bounds.specs.Step.{Met, Stepped}
-use Rattle.bounds.specs.True.{TermsHeld, EntriesHeld, TermsPut, EntriesPut}
-use Rattle.bounds.proofs.Steps.{Leaves, changed, followed, term-tighter, entry-tighter}
+use Rattle.bounds.specs.True.{TermsHeld, TermsPut}
+use Rattle.bounds.proofs.Steps.{Leaves, changed, followed, term-tighter}
 use Rattle.verdict.specs.declared.Verdict.the-variants.{Clashes}
 use Rattle.verdict.specs.Judged.{verdictOf, Judged}
-use Rattle.verdict.specs.Passing.{RestHeld, RestPut}
+use Rattle.verdict.specs.Entered.{EnteredHeld, EnteredPut}
 use Rattle.verdict.proofs.Ground.{Model, no-model}
 
 -- every level meets a table of no bounds
@@ -33,14 +33,9 @@ started-met n D v old d F = record { met = λ i j i< j<. go i j i< j< (ℕ-discr
     go i j i< j< (no ne) = rw (F .apart i j i< j< ne) (meets-none D (v i) (v j))
 
 module _ (s : Sheet) (S : Set) (W : WellFormed s) where
-  -- the terms are in, and then the entries
-  pub record Both (d : ℕ → ℕ → ℕ) : Type 0 where
-    pub terms : TermsHeld s (countTerms s) d
-    pub entries : EntriesHeld s S (countEntries s) d
-
   pub record All (d : ℕ → ℕ → ℕ) : Type 0 where
-    pub both : Both d
-    pub rest : RestHeld s S d
+    pub terms : TermsHeld s (countTerms s) d
+    pub entered : EnteredHeld s S d
 
   -- from a started table on, a step towards the verdict
   abbrev pub Toward : Leaves → List ℕ → List ℕ → Bool → Type 0
@@ -49,32 +44,14 @@ module _ (s : Sheet) (S : Set) (W : WellFormed s) where
   pub with-terms : {old new : List ℕ} {r : Bool} → TermsPut s old new r → Toward (TermsHeld s (countTerms s)) old new r
   with-terms = changed (λ D v m. record { zero = m .zero; defined = m .meet .defined }) (λ d p. p)
 
-  pub with-entries : {old mid new : List ℕ} {q r : Bool} → q ≡ true → Toward (TermsHeld s (countTerms s)) old mid q
-      → EntriesPut s S mid new r → Toward Both old new r
-  with-entries e A =
-      followed (λ D v m. m) (λ D v m. record { entries = m .meet .entries })
-      (λ d e t p q.
-      record {
-        terms = record { terms = λ i i<. term-tighter t (omega arith) (omega arith) (W .arguments i i<) (p .terms i i<) };
-        entries = q;
-      })
-      (A .kept) (A .went e)
-
-  pub with-rest : {old mid new : List ℕ} {q r : Bool} → q ≡ true → Toward Both old mid q → RestPut s S mid new r → Toward All old new r
-  with-rest e A =
+  pub with-entered : {old mid new : List ℕ} {q r : Bool} → q ≡ true → Toward (TermsHeld s (countTerms s)) old mid q → EnteredPut s S mid new r
+      → Toward All old new r
+  with-entered e A =
       followed (λ D v m. m) (λ D v m. record { functions = record { functions = m .meet .functions }; entries = record { entries = m .meet .entries } })
       (λ d e t p q.
       record {
-        both =
-            record {
-              terms = record { terms = λ i i<. term-tighter t (omega arith) (omega arith) (W .arguments i i<) (p .terms .terms i i<) };
-              entries =
-                  record {
-                    entries = λ k k< h.
-                        entry-tighter t (entryAt s k) (omega (arith, W .left k k<)) (omega (arith, W .right k k<)) (p .entries .entries k k< h);
-                  };
-            };
-        rest = q;
+        terms = record { terms = λ i i<. term-tighter t (omega arith) (omega arith) (W .arguments i i<) (p .terms i i<) };
+        entered = q;
       })
       (A .kept) (A .went e)
 
@@ -103,10 +80,10 @@ module _ (s : Sheet) (S : Set) (W : WellFormed s) where
           let G = A .went e in
           record {
             closed = G .table .closed;
-            terms = G .there .both .terms .terms;
-            entries = G .there .both .entries .entries;
-            functions = G .there .rest .saturated;
-            apart = G .there .rest .apart;
+            terms = G .there .terms .terms;
+            entries = G .there .entered .entries .entries;
+            functions = G .there .entered .rest .saturated;
+            apart = G .there .entered .rest .apart;
           }
 
       judged : (b : Bool) → r ≡ b → Judged s S (cell new) (verdictOf b) × Kept (points s) old new

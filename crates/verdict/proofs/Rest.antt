@@ -1,8 +1,8 @@
--- After the bounds: equalities passed on and no ≠ entry broken is the rest of what a sheet asks.
+-- What a sheet asks beyond its terms: the entries' bounds, equalities passed on, and no ≠ entry broken.
 -- Assumes nothing.
 use Prim.Native.Nat.{ℕ, _≤_, _<_}
-use mathlib.Core.Path.{_≡_, sym}
-use mathlib.Core.Bool.{Bool, true, false, true≢false}
+use mathlib.Core.Path.{_≡_}
+use mathlib.Core.Bool.{Bool, true, false}
 use mathlib.Core.List.{List}
 use lib.IntN.{ℤ}
 use native.Mathlib.Omega.{arith}
@@ -12,17 +12,14 @@ use Rattle.sheet.specs.Sheet.{Sheet, entryAt, WellFormed}
 use Rattle.values.specs.Settled.{points}
 use Rattle.values.proofs.Held.{tied-met}
 use Rattle.bounds.specs.Step.{Met}
+use Rattle.bounds.specs.True.{EntriesPut}
+use Rattle.bounds.proofs.Steps.{changed, refused, followed, entry-tighter}
 use Rattle.ties.specs.Ties.{Checked}
-use Rattle.verdict.specs.Passing.{RestTrue, FunctionsPut, RestPut}
+use Rattle.verdict.specs.Entered.{RestTrue, FunctionsPut, RestPut, EnteredPut}
 
 module _ (s : Sheet) (S : Set) (W : WellFormed s) {old new : List ℕ} {r : Bool} (A : FunctionsPut s old new r) where
   pub not-passed : r ≡ false → RestPut s S old new false
-  not-passed e =
-      record {
-        went = λ f. absurd (true≢false (sym f));
-        refuted = λ f D v D> M q. A .refuted e D v D> M (q .functions);
-        kept = A .kept;
-      }
+  not-passed e = refused e (changed (λ D v q. q .functions) (λ d h. h) A)
 
   module _ (e : r ≡ true) {sound : Bool} (B : Checked s S (cell new) sound) where
     -- a ≠ entry's terms that the table ties at its c are apart by c in whatever meets the table
@@ -44,3 +41,21 @@ module _ (s : Sheet) (S : Set) (W : WellFormed s) {old new : List ℕ} {r : Bool
           refuted = none;
           kept = A .kept;
         }
+
+-- and the entries before it
+module _ (s : Sheet) (S : Set) (W : WellFormed s) {old mid : List ℕ} {r : Bool} (A : EntriesPut s S old mid r) where
+  pub not-entered : r ≡ false → EnteredPut s S old mid false
+  not-entered e = refused e (changed (λ D v q. q .entries) (λ d h. h) A)
+
+  pub entered : r ≡ true → {new : List ℕ} {b : Bool} → RestPut s S mid new b → EnteredPut s S old new b
+  entered e =
+      followed (λ D v q. q .entries) (λ D v q. q)
+      (λ d e t p q.
+      record {
+        entries =
+            record {
+              entries = λ k k< h. entry-tighter t (entryAt s k) (omega (arith, W .left k k<)) (omega (arith, W .right k k<)) (p .entries k k< h);
+            };
+        rest = q;
+      })
+      (A .kept) (A .went e)

@@ -8,12 +8,10 @@ use lib.IntN.{ℤ, pos}
 use Rattle.closure.specs.Closed.{TiedAt}
 use Rattle.levels.specs.Level.{sumTo}
 use Rattle.table.specs.Cells.{cell, Kept}
-use Rattle.order.specs.First.{Set}
 use Rattle.sheet.specs.Sheet.{Sheet, countTerms, termAt}
 use Rattle.meaning.specs.Meaning.{SameInput}
-use Rattle.values.specs.Settled.{points, Saturated, Apart}
-use Rattle.bounds.specs.Step.{Went, Refuted, Stepped}
-use Rattle.bounds.specs.True.{EntriesTrue}
+use Rattle.values.specs.Settled.{points}
+use Rattle.bounds.specs.Step.{Went, Refuted}
 use Rattle.ties.specs.Ties.{Joined}
 use Rattle.verdict.specs.declared.Passed.{Passed}
 use Rattle.verdict.specs.declared.Passed.the-variants.{Clash, New, Still}
@@ -47,22 +45,6 @@ pub data Passing (s : Sheet) (P : (ℕ → ℕ → ℕ) → Type 0) (old : List 
   tied : {new : List ℕ} → Went (points s) (FunctionsTrue s) (λ d. Unit) old new → Kept (points s) old new
       → total (points s) (cell new) < total (points s) (cell old) → Passing s P old new New
   still : P (cell old) → Passing s P old old Still
-
--- the step that passes all equalities on
-abbrev pub FunctionsPut : Sheet → List ℕ → List ℕ → Bool → Type 0
-FunctionsPut s = Stepped (points s) (FunctionsTrue s) (Saturated s)
-
--- what is asked and held beyond the bounds of terms and entries, and the step that sees to it
-pub record RestTrue (s : Sheet) (S : Set) (D : ℕ) (v : ℕ → ℤ) : Type 0 where
-  pub functions : FunctionsTrue s D v
-  pub entries : EntriesTrue s S D v
-
-pub record RestHeld (s : Sheet) (S : Set) (d : ℕ → ℕ → ℕ) : Type 0 where
-  pub saturated : Saturated s d
-  pub apart : Apart s S d
-
-abbrev pub RestPut : Sheet → Set → List ℕ → List ℕ → Bool → Type 0
-RestPut s S = Stepped (points s) (RestTrue s S) (RestHeld s S)
 
 -- what a loop keeps of its passes, and what it answers in the end
 abbrev pub isClash : Passed → Bool

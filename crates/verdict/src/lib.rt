@@ -11,7 +11,8 @@ ghost use Rattle.sheet.specs.Decode.{Sized, sheetOf};
 ghost use Rattle.sheet.specs.Sheet.{WellFormed, countTerms, countEntries};
 ghost use Rattle.values.specs.Settled.{points};
 ghost use Rattle.verdict.specs.Judged.{verdictOf, Judged};
-ghost use Rattle.verdict.specs.Passing.{PairTied, RowTied, AllTied, Passing, FunctionsPut, RestPut, isClash, isNew, passedOf, putOf};
+ghost use Rattle.verdict.specs.Passing.{PairTied, RowTied, AllTied, Passing, isClash, isNew, passedOf, putOf};
+ghost use Rattle.verdict.specs.Entered.{FunctionsPut, RestPut, EnteredPut};
 use sheet::Biased;
 use sheet::TermNumber;
 
@@ -37,10 +38,7 @@ pub fn on(sheet: &[u8], set: &[bool], d: &mut [u32]) -> Verdict
     if !bounds::put_terms(sheet, d) {
         return Verdict::Clashes;
     }
-    if !bounds::put_entries(sheet, set, d) {
-        return Verdict::Clashes;
-    }
-    told(finish(sheet, set, d))
+    told(enter(sheet, set, d))
 }
 
 fn told(sound: bool) -> Verdict
@@ -51,6 +49,19 @@ fn told(sound: bool) -> Verdict
     } else {
         Verdict::Clashes
     }
+}
+
+// With all terms in: puts the entries in, and goes on from there.
+fn enter(sheet: &[u8], set: &[bool], d: &mut [u32]) -> bool
+    requires { ⌜ Sized (now sheet) × WellFormed (sheetOf (now sheet)) ⌝ }
+    requires { ⌜ countEntries (sheetOf (now sheet)) ≤ length (now set) ⌝ }
+    requires { ⌜ (length (now d) ≡ cells) × Table (points (sheetOf (now sheet))) (cell (now d)) ⌝ }
+    ensures { λ r. ⌜ EnteredPut (sheetOf (now (sheet .entry))) (marked (now (set .entry))) (now (d .entry)) (now (d .exit)) r ⌝ }
+{
+    if !bounds::put_entries(sheet, set, d) {
+        return false;
+    }
+    finish(sheet, set, d)
 }
 
 // With all terms and entries in: passes equalities on, then looks at the ≠ entries.

@@ -3,7 +3,7 @@
 use native.Mathlib.Omega.{arith}
 use borrow.Author.Needs.{needs}
 use borrow.Author.Tests.{not-true, not-false}
-use Rattle.verdict.proofs.Final.{with-terms, with-entries, with-rest, refused, told}
+use Rattle.verdict.proofs.Final.{with-terms, with-entered, refused, told}
 use Rattle.verdict.proofs.on.Statement.{statement}
 use Rattle.verdict.proofs.on.Tie as tie
 
@@ -26,49 +26,27 @@ returns c =
     let wf = start .pre .0 .1 in
     refused _ _ wf (started .before .count-terms .ensures .0) (started .start .ensures) (with-terms _ _ wf (terms .put-terms .ensures)) (not-true _ (c .if1 .taken))
 
-put-entries-requires : tie.Need-put-entries-requires
-put-entries-requires c κs =
-    let entered = c .before in
-    let terms = entered .before .before .before in
+enter-requires : tie.Need-enter-requires
+enter-requires c κs =
+    let going = c .before in
+    let terms = going .before .before .before in
     let start = terms .before .before .before .before .before .before .before .before .before .before in
-    (start .pre .0, (start .pre .1 .0, (omega arith, terms .put-terms .ensures .went (not-false _ (entered .if1 .left)) .table)))
+    (start .pre .0, (start .pre .1 .0, (omega arith, terms .put-terms .ensures .went (not-false _ (going .if1 .left)) .table)))
 
 returns-2 : tie.Need-returns-2
 returns-2 c =
-    let entries = c .before .before .before in
-    let entered = entries .before .before in
-    let terms = entered .before .before .before in
+    let entered = c .before .before .before in
+    let going = entered .before .before in
+    let terms = going .before .before .before in
     let started = terms .before .before .before .before in
     let start = started .before .before .before .before .before .before in
     let wf = start .pre .0 .1 in
     let A = with-terms _ _ wf (terms .put-terms .ensures) in
-    let B = with-entries _ _ wf (not-false _ (entered .if1 .left)) A (entries .put-entries .ensures) in
-    refused _ _ wf (started .before .count-terms .ensures .0) (started .start .ensures) B (not-true _ (c .if2 .taken))
-
-finish-requires : tie.Need-finish-requires
-finish-requires c κs =
-    let passing = c .before in
-    let entries = passing .before .before .before in
-    let start = entries .before .before .before .before .before .before .before .before .before .before .before .before .before .before .before in
-    (start .pre .0, (start .pre .1 .0, (omega arith, entries .put-entries .ensures .went (not-false _ (passing .if2 .left)) .table)))
-
-returns-3 : tie.Need-returns-3
-returns-3 c =
-    let finished = c .before .before .before in
-    let passing = finished .before .before in
-    let entries = passing .before .before .before in
-    let entered = entries .before .before in
-    let terms = entered .before .before .before in
-    let started = terms .before .before .before .before in
-    let start = started .before .before .before .before .before .before in
-    let wf = start .pre .0 .1 in
-    let A = with-terms _ _ wf (terms .put-terms .ensures) in
-    let B = with-entries _ _ wf (not-false _ (entered .if1 .left)) A (entries .put-entries .ensures) in
-    let C = with-rest _ _ wf (not-false _ (passing .if2 .left)) B (finished .finish .ensures) in
-    rw (c .told .ensures) (told _ _ wf (started .before .count-terms .ensures .0) (started .start .ensures) C)
+    let B = with-entered _ _ wf (not-false _ (going .if1 .left)) A (entered .enter .ensures) in
+    rw (c .told .ensures) (told _ _ wf (started .before .count-terms .ensures .0) (started .start .ensures) B)
 
 pub on-spec : {M : Type 1} → statement M
 on-spec =
     tie.close
-    (tie.spec (λ c κs. search needs) (λ c. search needs) start-requires put-terms-requires (λ c. omega arith) returns
-    put-entries-requires (λ c. omega arith) returns-2 finish-requires (λ c κs. search needs) (λ c. omega arith) returns-3)
+    (tie.spec (λ c κs. search needs) (λ c. search needs) start-requires put-terms-requires (λ c. omega arith) returns enter-requires
+    (λ c κs. search needs) (λ c. omega arith) returns-2)
