@@ -113,6 +113,13 @@ module _ (L : ℕ) (rank : ℕ → ℕ) where
   pub minimal : (P : Set → Type 0) (A B : Set) → First P L rank A → P B → Within L B A → Agree L A B
   minimal P A B a p w = ⊎-elim (λ e. e) (λ b. absurd (clash (w (b .at) (b .below) (b .holds)) (b .lacks))) (a .least B p)
 
+  -- a set that agrees with a first one is first
+  pub first-agree : (P : Set → Type 0) → Upward L P → (A B : Set) → Agree L A B → First P L rank A → First P L rank B
+  first-agree P up A B e f = record {
+    has = up A B (λ x l h. sym (e x l) ∙ h) (f .has);
+    least = λ C p. ⊎-elim (λ a. inl (λ x l. sym (e x l) ∙ a x l)) (λ b. inr (before-agree A C B C e (λ x l. refl) b)) (f .least C p);
+  }
+
   module _ (ties : NoTies L rank) where
     pub transitive : (A B C : Set) → Before L rank A B → Before L rank B C → Before L rank A C
     transitive A B C b c = go (decLt (rank (b .at)) (rank (c .at))) (decLt (rank (c .at)) (rank (b .at)))

@@ -1,0 +1,73 @@
+-- What the parts promise, joined: of all entries, and of the whole room.
+-- Assumes nothing.
+use Prim.Native.Nat.{ℕ, _≤_}
+use mathlib.Core.Path.{_≡_, refl, sym, ap, _∙_}
+use mathlib.Core.Logic.{inl, inr}
+use mathlib.Core.Bool.{true}
+use mathlib.Core.List.{List, _++_}
+use lib.ListN.{length, getD, take, drop, replicate, length-drop, take-append-drop}
+use lib.Seq.{getD-drop, ext-getD}
+use native.Mathlib.Omega.{arith}
+use Rattle.order.specs.First.{every, marked}
+use Rattle.sheet.specs.Decode.{sheetOf}
+use Rattle.sheet.specs.Limits.{maxEntries}
+use Rattle.sheet.specs.Sheet.{Sheet, countTerms, WellFormed}
+use Rattle.sheet.proofs.Decode.{length-each}
+use Rattle.meaning.specs.Meaning.{Clashes}
+use Rattle.meaning.proofs.Meaning.{meet-fewer, clashes-upward}
+use Rattle.refusal.specs.Table.{fine, refused, refusal}
+use Rattle.answer.specs.Record.{holdsRecord, clashesRecord}
+use Rattle.answer.proofs.Tells.{holds-length, clashes-length}
+use Rattle.values.specs.Settled.{Settled}
+use Rattle.values.specs.Written.{recordLength, listed, Written}
+use Rattle.blame.specs.Blamed.{Blamed}
+use Rattle.blame.proofs.Blame.{all-marked}
+use Rattle.panel.specs.Answered.{over, SaysHolds, SaysClashes, Judged, Answered}
+use Rattle.panel.proofs.Accepted.{fine-refused}
+
+-- a record in the first bytes, and past it the bytes as they were
+recorded : (answer old new : List ℕ) → length new ≡ length old → (size : ℕ) → size ≡ length answer → take size new ≡ answer →
+    ((k : ℕ) → size ≤ k → getD new k 0 ≡ getD old k 0) → new ≡ over answer old
+recorded answer old new l size e bytes kept =
+    sym (take-append-drop size new) ∙ ap (λ (b : List ℕ). b ++ drop size new) bytes ∙ ap (λ (b : List ℕ). answer ++ b) (past ∙ ap (λ (n : ℕ). drop n old) e)
+  where
+    past : drop size new ≡ drop size old
+    past = ext-getD 0 _ _ (simp length-drop (omega arith)) (λ i h. getD-drop size new i 0 ∙ kept _ (omega arith) ∙ sym (getD-drop size old i 0))
+
+pub all-clash : (s : Sheet) → Clashes s (marked (replicate maxEntries true)) → Clashes s every
+all-clash s c = clashes-upward s _ every (λ x l h. refl) c
+
+module _ (s : Sheet) (old new : List ℕ) (same : length new ≡ length old) where
+  pub says-holds : WellFormed s → (d : ℕ → ℕ → ℕ) → Settled s (marked (replicate maxEntries true)) d → Written s d old new → SaysHolds s old new 0 (recordLength s)
+  says-holds wf d settled w =
+      let e : recordLength s ≡ length (holdsRecord (w .D) (listed s (w .n))) = omega (arith, holds-length (w .D) (listed s (w .n)), length-each (countTerms s) (w .n)) in
+      record {
+        D = w .D;
+        n = w .n;
+        meet = meet-fewer s every _ (w .D) (w .n) (λ x l h. all-marked wf x l) (w .meets _ settled);
+        within = w .within;
+        number-is = refl;
+        place-is = e;
+        room-is = recorded _ old new same (recordLength s) e (w .bytes) (w .kept);
+      }
+
+  pub says-clashes : (size : ℕ) → Blamed s old new size → SaysClashes s old new 1 size
+  says-clashes size b =
+      let e : size ≡ length (clashesRecord (b .list)) = b .size-is ∙ sym (clashes-length (b .list)) in
+      record {
+        list = b .list;
+        first = b .first;
+        within = b .within;
+        number-is = refl;
+        place-is = e;
+        room-is = recorded _ old new same size e (b .bytes) (b .kept);
+      }
+
+pub sent : (sheet old : List ℕ) (N P : ℕ) → refusal sheet (length old) ≡ refused N P → Answered sheet old old N P
+sent sheet old N P e = record {
+  sent-back = λ Q R q. record { number-is = cc; place-is = cc; room-is = refl };
+  judged = λ f. absurd (fine-refused f e);
+}
+
+pub given : (sheet old new : List ℕ) (N P : ℕ) → refusal sheet (length old) ≡ fine → Judged (sheetOf sheet) old new N P → Answered sheet old new N P
+given sheet old new N P e j = record { sent-back = λ Q R q. absurd (fine-refused e q); judged = λ f. j }

@@ -1,0 +1,4 @@
+pub mod Accepted
+pub mod Unique
+mod Listing
+mod Join
