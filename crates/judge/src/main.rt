@@ -1,32 +1,43 @@
 // The small program: reads a sheet from standard input, up to one byte more than the longest, and prints one line.
-// It is thin over refusal and verdict, which are proved; what it reads and prints is run and compared.
+// It is thin over the panel, which is proved; what it reads and prints is run and compared.
 use libc::STDIN_FILENO;
 use libc::STDOUT_FILENO;
-use refusal::Checked;
-use verdict::Verdict;
+use panel::Answer;
 
 fn main() {
     let mut bytes = [0u8; sheet::LONGEST + 1];
     let lent = io::read_full(STDIN_FILENO, &mut bytes);
-    match refusal::check_sheet(&bytes[..lent]) {
-        Checked::Refused(why) => {
+    let mut room = [0u8; sheet::ROOM_NEEDED];
+    match panel::judge(&bytes[..lent], &mut room) {
+        Answer::Holds(_) => {
+            io::write_all(STDOUT_FILENO, b"holds\n");
+        }
+        Answer::Clashes(size) => {
+            let end = size as usize;
+            io::write_all(STDOUT_FILENO, b"clashes");
+            print_list(&room[8..end]);
+            io::write_all(STDOUT_FILENO, b"\n");
+        }
+        Answer::Refused(why) => {
             io::write_all(STDOUT_FILENO, b"refused ");
             io::print_decimal(STDOUT_FILENO, why.number() as u64);
             io::write_all(STDOUT_FILENO, b" at ");
             io::print_decimal(STDOUT_FILENO, why.place() as u64);
             io::write_all(STDOUT_FILENO, b"\n");
         }
-        Checked::Fine => {
-            let every = [true; sheet::MAX_ENTRIES];
-            let mut cells = [0u32; table::CELLS];
-            match verdict::on(&bytes[..lent], &every, &mut cells) {
-                Verdict::Holds => {
-                    io::write_all(STDOUT_FILENO, b"holds\n");
-                }
-                Verdict::Clashes => {
-                    io::write_all(STDOUT_FILENO, b"clashes\n");
-                }
-            }
-        }
     }
+}
+
+fn print_list(list: &[u8]) {
+    let mut i = 0;
+    while i < list.len() {
+        print_entry(list[i]);
+        i += 1;
+    }
+}
+
+// The number after a space.
+fn print_entry(number: u8) {
+    io::write_all(STDOUT_FILENO, b" ");
+    io::print_decimal(STDOUT_FILENO, number as u64);
 }

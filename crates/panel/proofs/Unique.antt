@@ -16,12 +16,13 @@ use Rattle.sheet.proofs.Decode.{length-each}
 use Rattle.meaning.specs.Meaning.{Holds, Clashes, FirstClash}
 use Rattle.meaning.proofs.Meaning.{clashes-upward}
 use Rattle.refusal.specs.Table.{Reply, fine, refused, refusal}
+use Rattle.refusal.proofs.Fine.{fine-formed}
 use Rattle.answer.specs.Record.{ListWithin}
 use Rattle.answer.proofs.Tells.{holds-length, clashes-length}
 use Rattle.values.specs.Written.{listed}
 use Rattle.panel.specs.Answered.{SaysHolds, SaysClashes, Judged, Answered}
 use Rattle.panel.proofs.Listing.{within-listed, within-short}
-use Rattle.panel.proofs.Accepted.{fine-refused, refused-ten}
+use Rattle.panel.proofs.Accepted.{fine-refused, fine-sheet, refused-ten}
 
 -- the first list of a sheet is one only
 module _ (s : Sheet) where
@@ -97,3 +98,17 @@ module _ {sheet old new : List ℕ} {N P : ℕ} (a : Answered sheet old new N P)
       go : Judged (sheetOf sheet) old new N P → N ≡ 0
       go (inl h) = h .number-is
       go (inr c) = absurd (omega (arith, c .within .some, list-short c))
+
+  -- the list of a clash stands in the room, behind the eight bytes of the record's head
+  pub clash-fits : N ≡ 1 → (8 ≤ P) × (P ≤ length old)
+  clash-fits one = go (refusal sheet (length old)) refl
+    where
+      stands : refusal sheet (length old) ≡ fine → Judged (sheetOf sheet) old new N P → (8 ≤ P) × (P ≤ length old)
+      stands e (inl h) = absurd (omega (arith, h .number-is))
+      stands e (inr c) =
+          let (formed, room) = fine-sheet sheet (length old) e in
+          omega (arith, clashes-place c, list-short c, fine-formed sheet formed .1 .entries)
+
+      go : (r : Reply) → refusal sheet (length old) ≡ r → (8 ≤ P) × (P ≤ length old)
+      go fine e = stands e (a .judged e)
+      go (refused Q R) e = absurd (omega (arith, refused-ten sheet (length old) Q R e, a .sent-back Q R e .number-is))

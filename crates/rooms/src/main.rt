@@ -1,22 +1,21 @@
 // Sheet 15's last part, run: the sheet on standard input with an answer room one byte too small, and with one just large enough.
-// It is thin over refusal, and prints the number of each refusal, or "fine", on a line.
+// It is thin over the panel, and prints the number and the place of each answer on a line.
 use libc::STDIN_FILENO;
 use libc::STDOUT_FILENO;
-use refusal::Checked;
 
 fn main() {
     let mut bytes = [0u8; sheet::LONGEST + 1];
     let lent = io::read_full(STDIN_FILENO, &mut bytes);
-    match refusal::check(&bytes[..lent], sheet::ROOM_NEEDED - 1) {
-        Checked::Refused(why) => io::print_decimal(STDOUT_FILENO, why.number() as u64),
-        Checked::Fine => io::write_all(STDOUT_FILENO, b"fine"),
-    }
-    ;
-    io::write_all(STDOUT_FILENO, b"\n");
-    match refusal::check(&bytes[..lent], sheet::ROOM_NEEDED) {
-        Checked::Refused(why) => io::print_decimal(STDOUT_FILENO, why.number() as u64),
-        Checked::Fine => io::write_all(STDOUT_FILENO, b"fine"),
-    }
-    ;
+    let mut short = [0u8; sheet::ROOM_NEEDED - 1];
+    print_reply(&bytes[..lent], &mut short);
+    let mut enough = [0u8; sheet::ROOM_NEEDED];
+    print_reply(&bytes[..lent], &mut enough);
+}
+
+fn print_reply(sheet: &[u8], room: &mut [u8]) {
+    let answer = panel::judge(sheet, room);
+    io::print_decimal(STDOUT_FILENO, answer.number() as u64);
+    io::write_all(STDOUT_FILENO, b" ");
+    io::print_decimal(STDOUT_FILENO, answer.place() as u64);
     io::write_all(STDOUT_FILENO, b"\n");
 }

@@ -1,28 +1,37 @@
--- The program's one fact: a sheet that isn't refused is well-formed, so it may be judged.
+-- The program's one fact: the list of a clash stands in the room, behind the record's head.
 -- Assumes nothing.
-use mathlib.Core.Path.{refl, sym, _∙_, ap}
+use Prim.Native.Nat.{_≤_}
+use mathlib.Core.Path.{ap}
+use native.Mathlib.Omega.{arith}
 use borrow.Author.Needs.{needs}
-use Rattle.refusal.proofs.Fine.{fine-formed}
-use Rattle.refusal.specs.Says.{checkSays}
+use Rattle.sheet.specs.Limits.{roomNeeded}
+use Rattle.panel.specs.Answered.{numberOf, placeOf}
+use Rattle.panel.proofs.Unique.{clash-fits}
 use Rattle.judge.proofs.main.Statement.{statement}
 use Rattle.judge.proofs.main.Tie as tie
 
-enum-told : tie.Need-enum-told
-enum-told c = search needs
+stands : (c : tie.After-write-all2) → (8 ≤ c .before .before .before .size .given .0 .0) × (c .before .before .before .size .given .0 .0 ≤ roomNeeded)
+stands c =
+    let known = c .before .before .before in
+    let clash = known .size .given .1 in
+    omega (arith, clash-fits (known .before .before .before .judge .ensures) (ap numberOf clash), ap placeOf clash)
 
-on-requires : tie.Need-on-requires
-on-requires c κs =
-    let told = c .before .before .before in
-    let checked = told .before .before in
-    let formed = fine-formed _ (sym (checked .check-sheet .ensures) ∙ ap checkSays (told .enum-told .given .1)) in
-    (formed, (formed .1 .entries, refl))
+sub-print-list : tie.Need-sub-print-list
+sub-print-list c = stands c .0
+
+part-print-list-start : tie.Need-part-print-list-start
+part-print-list-start c = stands (c .before) .0
+
+part-print-list-end : tie.Need-part-print-list-end
+part-print-list-end c = omega (arith, stands (c .before))
 
 pub main-spec : {M : Type 1} → statement M
 main-spec =
     tie.close
-    (tie.spec (λ c. search needs) (λ c κs. search needs) (λ c. search needs) (λ c. search needs) (λ c κs. search needs)
-    (λ c. search needs) (λ c. search needs) (λ c κs. search needs) (λ c κs. search needs) (λ c. search needs) (λ c κs. search needs)
-    (λ c. search needs) (λ c κs. search needs) (λ c κs. search needs) (λ c. search needs) (λ c κs. search needs) (λ c. search needs)
-    (λ c κs. search needs) enum-told (λ c. search needs) (λ c. search needs) (λ c. search needs) (λ c. search needs) on-requires
-    (λ c. search needs) (λ c. search needs) (λ c κs. search needs) (λ c. search needs) (λ c. search needs) (λ c κs. search needs)
+    (tie.spec (λ c. search needs) (λ c κs. search needs) (λ c. search needs) (λ c. search needs) (λ c. search needs)
+    (λ c κs. search needs) (λ c. search needs) (λ c. search needs) (λ c κs. search needs) (λ c. search needs) (λ c. search needs)
+    (λ c. search needs) (λ c κs. search needs) sub-print-list part-print-list-start part-print-list-end (λ c κs. search needs)
+    (λ c. search needs) (λ c κs. search needs) (λ c. search needs) (λ c. search needs) (λ c κs. search needs)
+    (λ c κs. search needs) (λ c. search needs) (λ c κs. search needs) (λ c. search needs) (λ c κs. search needs)
+    (λ c κs. search needs) (λ c. search needs) (λ c κs. search needs) (λ c. search needs) (λ c κs. search needs)
     (λ c. search needs) (λ c. search needs) (λ c. search needs))
