@@ -6,11 +6,12 @@ ghost use mathlib.Core.Bool.{true};
 ghost use Prim.Native.Nat.{ℕ, _+_, _≤_, _<_};
 ghost use lib.ListN.{length, drop};
 ghost use Rattle.big.specs.Big.{Kept};
-ghost use Rattle.table.specs.Cells.{cells};
+ghost use Rattle.table.specs.Cells.{cells, Kept as CellsKept};
 ghost use Rattle.order.specs.First.{every, marked, Listed};
 ghost use Rattle.sheet.specs.Decode.{Sized, sheetOf};
 ghost use Rattle.sheet.specs.Sheet.{WellFormed, countEntries};
 ghost use Rattle.meaning.specs.Meaning.{Clashes, FirstClash};
+ghost use Rattle.values.specs.Settled.{points};
 ghost use Rattle.ties.specs.Ties.{Decides};
 ghost use Rattle.blame.specs.Blamed.{Blamed};
 use verdict::Verdict;
@@ -49,7 +50,8 @@ fn leave_out(sheet: &[u8], marks: &mut [bool])
 fn clashes(sheet: &[u8], marks: &[bool], d: &mut [u32]) -> bool
     requires { ⌜ Sized (now sheet) × WellFormed (sheetOf (now sheet)) ⌝ }
     requires { ⌜ (countEntries (sheetOf (now sheet)) ≤ length (now marks)) × (length (now d) ≡ cells) ⌝ }
-    ensures { λ r. ⌜ Decides (Clashes (sheetOf (now (sheet .entry))) (marked (now (marks .entry)))) r ⌝ }
+    ensures decides { λ r. ⌜ Decides (Clashes (sheetOf (now (sheet .entry))) (marked (now (marks .entry)))) r ⌝ }
+    ensures kept { λ _. ⌜ CellsKept (points (sheetOf (now (sheet .entry)))) (now (d .entry)) (now (d .exit)) ⌝ }
 {
     match verdict::on(sheet, marks, d) {
         Verdict::Holds => false,

@@ -2,7 +2,7 @@
 -- On the way, from the ranks that are done up, no set that has the property comes before the one that stands.
 -- Assumes nothing.
 use Prim.Native.Nat.{ℕ, _≤_, _<_}
-use mathlib.Core.Path.{_≡_, refl, sym, ap, _∙_}
+use mathlib.Core.Path.{_≡_, sym, ap, _∙_}
 use mathlib.Core.Logic.{_⊎_, inl, inr, ⊎-elim}
 use mathlib.Core.Bool.{true, Bool-discrete}
 use native.Mathlib.Omega.{arith}

@@ -2,19 +2,24 @@
 -- Assumes nothing.
 use Prim.Native.Nat.{ℕ, _+_, _*_, _/_, _%_, _<_}
 use mathlib.Core.Path.{_≡_}
+use mathlib.Core.List.{List}
 use native.Mathlib.Omega.{arith}
 use borrow.Author.Needs.{needs}
+use Rattle.panel.specs.Answered.{Answered}
 use Rattle.baruvkesh.proofs.baruvkesh_judge.Statement.{statement}
 use Rattle.baruvkesh.proofs.baruvkesh_judge.Tie as tie
 
-back : (number place : ℕ) → place < 65536 → ((number * 65536 + place) / 65536 ≡ number) × ((number * 65536 + place) % 65536 ≡ place)
-back number place h = (omega arith, omega arith)
+read-back : {sheet old new : List ℕ} {number place : ℕ} (r : ℕ) → Answered sheet old new number place → place < 65536 →
+    r ≡ number * 65536 + place → Answered sheet old new (r / 65536) (r % 65536)
+read-back {number = number} {place} r a h e =
+    let n : r / 65536 ≡ number = omega arith in
+    let p : r % 65536 ≡ place = omega arith in
+    rw (n, p) a
 
 returns : tie.Need-returns
 returns c =
-    let judged = c .before .before .before .before in
-    let both = back (c .before .number .result) (c .place .result) (omega arith) in
-    rw (both .0, both .1, c .before .number .ensures, c .place .ensures) (judged .judge .ensures)
+    let numbered = c .before in
+    read-back _ (numbered .before .before .before .judge .ensures) (omega arith) (omega arith)
 
 pub baruvkesh-judge-spec : {M : Type 1} → statement M
 baruvkesh-judge-spec =

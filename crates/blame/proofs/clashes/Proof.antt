@@ -9,13 +9,13 @@ use Rattle.blame.proofs.clashes.Tie as tie
 
 returns : tie.Need-returns
 returns c =
-    let judged = c .before .before .before .before .on .ensures .0 in
-    record { yes = λ e. absurd (false≢true e); no = λ e clash. clash (judged .holds (ap numberOf (c .enum-told .given .1))) }
+    let (judged, kept) = c .before .before .before .before .on .ensures in
+    (record { yes = λ e. absurd (false≢true e); no = λ e clash. clash (judged .holds (ap numberOf (c .enum-told .given .1))) }, kept)
 
 returns-2 : tie.Need-returns-2
 returns-2 c =
-    let judged = c .before .before .before .before .on .ensures .0 in
-    record { yes = λ e. judged .clashes (ap numberOf (c .enum-told2 .given .1)); no = λ e. absurd (true≢false e) }
+    let (judged, kept) = c .before .before .before .before .on .ensures in
+    (record { yes = λ e. judged .clashes (ap numberOf (c .enum-told2 .given .1)); no = λ e. absurd (true≢false e) }, kept)
 
 pub clashes-spec : {M : Type 1} → statement M
 clashes-spec =

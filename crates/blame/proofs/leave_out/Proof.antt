@@ -4,7 +4,6 @@ use Prim.Native.Nat.{_≤_}
 use mathlib.Core.Path.{_≡_, refl}
 use lib.ListN.{length, length-set}
 use native.Mathlib.Omega.{arith}
-use borrow.Author.Needs.{needs}
 use borrow.Author.Tests.{not-true, not-false}
 use Rattle.order.specs.First.{marked, number}
 use Rattle.order.specs.Down.{GoneDown, start}
@@ -42,7 +41,7 @@ loop-again c =
       omega arith,
       simp length-set (omega arith),
       omega arith,
-      turn-in _ (loop .marks) (omega arith) (omega arith) (omega arith) (loop .inv .3) (clashes-upward _) (asked .clashes .ensures .no (not-true _ (c .if1 .taken))),
+      turn-in _ (loop .marks) (omega arith) (omega arith) (omega arith) (loop .inv .3) (clashes-upward _) (asked .clashes .ensures .0 .no (not-true _ (c .if1 .taken))),
     )
 
 loop-again-2 : tie.Need-loop-again-2 Inv-loop μ-loop
@@ -52,7 +51,7 @@ loop-again-2 c =
       omega arith,
       simp length-set (omega arith),
       omega arith,
-      turn-out _ (loop .marks) (omega arith) (omega arith) (omega arith) (loop .inv .3) (asked .clashes .ensures .yes (not-false _ (c .if1 .left))),
+      turn-out _ (loop .marks) (omega arith) (omega arith) (omega arith) (loop .inv .3) (asked .clashes .ensures .0 .yes (not-false _ (c .if1 .left))),
     )
 
 returns : tie.Need-returns Inv-loop μ-loop

@@ -1,0 +1,57 @@
+/* The panel's call for C and C++. The code behind it is proved, for x86-64 Linux: `rt staticlib baruvkesh` writes it to
+ * target/staticlib/libbaruvkesh.a, and a program links that archive and the C library. */
+#ifndef BARUVKESH_H
+#define BARUVKESH_H
+
+#include <stddef.h>
+#include <stdint.h>
+
+#ifdef __cplusplus
+extern "C" {
+#endif
+
+/* No sheet is longer, and no answer record is: a room of this length is enough for every sheet. */
+#define BARUVKESH_LONGEST_SHEET 774
+#define BARUVKESH_ROOM_NEEDED 520
+
+/* Judges the sheet, and answers number * 65536 + place:
+ *
+ *   number  given exactly when                                               place
+ *   0       the sheet holds                                                  length of the answer record
+ *   1       the sheet clashes                                                length of the answer record
+ *   10      fewer than 6 bytes lent, or bytes 0-1 don't state that length    0
+ *   11      version isn't 1                                                  0
+ *   12      T is 0 or over 64, L over 64, byte 5 not 0, or the length
+ *           isn't 6 + 6T + 6L                                                0
+ *   13      a term has kind over 4, a non-zero unused field, or an
+ *           argument not below its own number                                lowest such term
+ *   14      an entry has kind over 3, a non-zero second byte, or a or b
+ *           not below T                                                      lowest such entry
+ *   15      room_length under 520                                            0
+ *
+ * 10 to 15 are checked in that order, and the first that applies is given. With them the whole room keeps what it held. With 0 and 1
+ * the room starts with the answer record, and the bytes past its length keep what they held:
+ *
+ *   bytes   holds                                                            clashes
+ *   0-1     8 + 8T                                                           8 + k
+ *   2       1                                                                1
+ *   3       0                                                                1
+ *   4-5     D, 1 to 65535                                                    k, at least 1
+ *   6-7     0                                                                0
+ *   8 on    T signed values n, two's complement, 8 bytes each: the value     k entry numbers, rising,
+ *           of a term is n / D                                               a byte each
+ *
+ * Numbers of several bytes are big-endian. The sheet is never written. Any bytes and any two lengths are allowed; with a length of 0
+ * the pointer isn't followed and may be NULL. The sheet and the room may not overlap. The call keeps nothing between calls and asks for
+ * no memory but the stack's, under 64 KB, so threads may call it at the same time, each with a room of its own. */
+uint32_t baruvkesh_judge(const uint8_t *sheet, size_t sheet_length, uint8_t *room, size_t room_length);
+
+/* The two halves of what baruvkesh_judge answers. */
+static inline unsigned baruvkesh_number(uint32_t answer) { return answer >> 16; }
+static inline size_t baruvkesh_place(uint32_t answer) { return answer & 0xFFFF; }
+
+#ifdef __cplusplus
+}
+#endif
+
+#endif
