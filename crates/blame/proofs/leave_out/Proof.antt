@@ -5,6 +5,7 @@ use mathlib.Core.Path.{_≡_, refl}
 use lib.ListN.{length, length-set}
 use native.Mathlib.Omega.{arith}
 use borrow.Author.Tests.{not-true, not-false}
+use Rattle.table.specs.Cells.{cells}
 use Rattle.order.specs.First.{marked, number}
 use Rattle.order.specs.Down.{GoneDown, start}
 use Rattle.order.proofs.Laws.{number-ties}
@@ -19,7 +20,7 @@ use Rattle.blame.proofs.leave_out.Tie as tie
 
 abbrev Inv-loop : tie.InvT-loop
 Inv-loop sheet m₀ d₀ r₀ m d r =
-    (r ≤ countEntries (sheetOf sheet)) × (length m ≡ length m₀) × (length d ≡ 4225) × GoneDown (Clashes (sheetOf sheet)) (countEntries (sheetOf sheet)) number r (marked m)
+    (r ≤ countEntries (sheetOf sheet)) × (length m ≡ length m₀) × (length d ≡ cells) × GoneDown (Clashes (sheetOf sheet)) (countEntries (sheetOf sheet)) number r (marked m)
 
 abbrev μ-loop : tie.MeasureT-loop
 μ-loop sheet m₀ d₀ r₀ m d r = r
