@@ -1,4 +1,5 @@
--- Bytes that read as the numbers of an answer record are that record, for code that writes it number by number. Assumes nothing.
+-- Bytes that read as the numbers of an answer record are that record, for code that writes it number by number.
+-- Assumes nothing.
 use Prim.Native.Nat.{ℕ, suc, _+_, _*_, _≤_, _<_}
 use mathlib.Core.Path.{_≡_, refl, sym}
 use mathlib.Core.List.{List, [], _∷_, _++_, append-assoc}

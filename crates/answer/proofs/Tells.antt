@@ -1,4 +1,5 @@
--- An answer record tells its verdict, and with it D and the values, or the list: no other makes the same bytes. Assumes nothing.
+-- An answer record tells its verdict, and with it D and the values, or the list: no other makes the same bytes.
+-- Assumes nothing.
 use Prim.Native.Nat.{ℕ, suc, _+_, _*_, _^_, _≤_, _<_}
 use mathlib.Core.Path.{_≡_, refl, sym, ap}
 use mathlib.Core.List.{List, [], _∷_}

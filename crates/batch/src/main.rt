@@ -7,7 +7,8 @@ use libc::STDOUT_FILENO;
 // The most bytes that a frame may count, as many as `io::buffer` has.
 const MOST: usize = 4096;
 
-const HEAD: usize = 3;
+// What stands before the room in an answer: number and place.
+const NUMBER_AND_PLACE: usize = 3;
 
 fn main() {
     // A proved loop has to end, and nothing says that the input does: it counts down from a number that no run uses up.
@@ -38,7 +39,7 @@ fn answer_sheet(sheet: &mut [u8]) -> bool {
     }
     let mut room = [0xAAu8; sheet::ROOM_NEEDED];
     let answer = panel::judge(sheet, &mut room);
-    let mut head = [0u8; HEAD];
+    let mut head = [0u8; NUMBER_AND_PLACE];
     head[0] = answer.number();
     big::write(&mut head, 1, 2, answer.place() as u64);
     io::write_all(STDOUT_FILENO, &head) && io::write_all(STDOUT_FILENO, &room)

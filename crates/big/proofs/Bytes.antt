@@ -1,4 +1,5 @@
--- Writing a number and reading it undo one another at any width, and so do two's complement and its reading. Assumes nothing.
+-- Writing a number and reading it undo one another at any width, and so do two's complement and its reading.
+-- Assumes nothing.
 use Prim.Native.Nat.{ℕ, zero, suc, _+_, _*_, _-_, _/_, _%_, _^_, _≤_, _<_}
 use mathlib.Core.Path.{_≡_, refl, _∙_}
 use mathlib.Core.Logic.{_⊎_, inl, inr}

@@ -1,4 +1,5 @@
--- The number of some bytes, the most significant first: one byte more, its bound, and that it and its bytes decide one another. Assumes nothing.
+-- The number of some bytes, the most significant first: one byte more, its bound, and that it and its bytes decide one another.
+-- Assumes nothing.
 use Prim.Native.Nat.{ℕ, zero, suc, _+_, _*_, _^_, _≤_, _<_}
 use mathlib.Core.Path.{_≡_, refl}
 use mathlib.Core.List.{List}

@@ -1,4 +1,5 @@
--- Writing a number from its last byte to its first, and that what is left is one only. Assumes nothing.
+-- Writing a number from its last byte to its first, and that what is left is one only.
+-- Assumes nothing.
 use Prim.Native.Nat.{ℕ, suc, _+_, _-_, _/_, _%_, _^_, _≤_, _<_}
 use mathlib.Core.Path.{_≡_, refl, sym, _∙_, subst}
 use mathlib.Core.Logic.{_≢_, _⊎_, inl, inr}

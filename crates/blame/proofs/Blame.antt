@@ -10,7 +10,7 @@ use native.Mathlib.Omega.{arith}
 use Rattle.big.specs.Big.{Bytes, Kept}
 use Rattle.order.specs.First.{Set, marked, number, Listed}
 use Rattle.order.proofs.Laws.{first-agree}
-use Rattle.order.proofs.Lists.{listed-set}
+use Rattle.order.proofs.Lists.{listed-agrees}
 use Rattle.sheet.specs.Limits.{maxEntries}
 use Rattle.sheet.specs.Sheet.{Sheet, countEntries, WellFormed}
 use Rattle.meaning.specs.Meaning.{Clashes, FirstClash}
@@ -50,7 +50,7 @@ module _ (s : Sheet) (wf : WellFormed s) (A : Set) (first : FirstClash s A) (old
   pub blamed : Bytes new → Blamed s old new (8 + k)
   blamed B = record {
     list = list;
-    first = first-agree (countEntries s) number (Clashes s) (clashes-upward s) A _ (listed-set (countEntries s) A list own) first;
+    first = first-agree (countEntries s) number (Clashes s) (clashes-upward s) A _ (listed-agrees (countEntries s) A list own) first;
     within = record {
       some = clash-some s wf A list (length list) (first .has) own;
       entry = own .entry;

@@ -22,9 +22,10 @@ pub fn write(sheet: &[u8], room: &mut [u8]) -> usize
     requires { ⌜ Clashes (sheetOf (now sheet)) every × (8 + countEntries (sheetOf (now sheet)) ≤ length (now room)) ⌝ }
     ensures { λ r. ⌜ Blamed (sheetOf (now (sheet .entry))) (now (room .entry)) (now (room .exit)) r ⌝ }
 {
+    let entries = sheet::count_entries(sheet);
     let mut marks = [true; sheet::MAX_ENTRIES];
     leave_out(sheet, &mut marks);
-    let k = list(&marks, sheet::count_entries(sheet), room);
+    let k = list(&marks, entries, room);
     answer::head(room, 8 + k, 1, k as u64);
     8 + k
 }

@@ -3,6 +3,7 @@
 use libc::STDIN_FILENO;
 use libc::STDOUT_FILENO;
 use panel::Answer;
+use sheet::EntryNumber;
 
 fn main() {
     let mut bytes = [0u8; sheet::LONGEST + 1];
@@ -31,13 +32,13 @@ fn main() {
 fn print_list(list: &[u8]) {
     let mut i = 0;
     while i < list.len() {
-        print_entry(list[i]);
+        print_entry(EntryNumber(list[i]));
         i += 1;
     }
 }
 
-// The number after a space.
-fn print_entry(number: u8) {
+// The entry's number after a space.
+fn print_entry(entry: EntryNumber) {
     io::write_all(STDOUT_FILENO, b" ");
-    io::print_decimal(STDOUT_FILENO, number as u64);
+    io::print_decimal(STDOUT_FILENO, entry.0 as u64);
 }

@@ -1,10 +1,10 @@
 -- The lazy panels that document 01 shuts out, and two of its shortcuts: for each a starred sheet to which its reply breaks the promise,
--- whatever the answer room held.
+-- whatever the answer room held; one that writes nothing is let off only where the room held that very answer before.
 -- Assumes nothing.
 use Prim.Native.Nat.{ℕ, _≤_}
 use mathlib.Core.Path.{_≡_}
 use mathlib.Core.List.{List, [], _∷_}
-use lib.ListN.{length, getD}
+use lib.ListN.{length, take}
 use Rattle.big.specs.Big.{bigOf}
 use Rattle.sheet.specs.Limits.{maxEntries, roomNeeded}
 use Rattle.answer.specs.Record.{clashesRecord}
@@ -23,11 +23,11 @@ pub record Lazy : Type 0 where
   -- names every entry always
   pub names-where-holds : NoReply Bytes.bytes2 (λ old new number. number ≡ 1)
   pub names-every : NoReply Bytes.bytes6 (λ old new number. new ≡ over (clashesRecord (0 ∷ 1 ∷ 2 ∷ 3 ∷ [])) old)
-  -- writes nothing, where the room didn't have the record's 1 before
-  pub writes-nothing : NoReply Bytes.bytes1 (λ old new number. (new ≡ old) × (getD old 2 0 ≡ 1 → ⊥))
+  -- writes nothing
+  pub writes-nothing : NoReply Bytes.bytes1 (λ old new number. (new ≡ old) × (take 11 old ≡ clashesRecord (0 ∷ 1 ∷ 2 ∷ []) → ⊥))
   -- makes up k
   pub makes-up : NoReply Bytes.bytes1 (λ old new number. bigOf new 4 2 ≡ 3 → ⊥)
   -- blames whatever the search met last: any list but the first
   pub blames : (list : List ℕ) → length list ≤ maxEntries → (list ≡ 0 ∷ 1 ∷ 2 ∷ [] → ⊥) → NoReply Bytes.bytes6 (λ old new number. new ≡ over (clashesRecord list) old)
-  -- chooses the fewest entries
+  -- chooses the fewest entries: one of those lists
   pub fewest : NoReply Bytes.bytes6 (λ old new number. new ≡ over (clashesRecord (3 ∷ [])) old)

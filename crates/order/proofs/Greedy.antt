@@ -1,5 +1,5 @@
 -- Going down from the highest rank and leaving out what isn't needed ends in the first set, of any property that is upward closed.
--- On the way, from the ranks that are done up, no set that has the property comes before the one that stands.
+-- On the way, by the ranks that are done, no set that has the property comes before the one that stands.
 -- Assumes nothing.
 use Prim.Native.Nat.{ℕ, _≤_, _<_}
 use mathlib.Core.Path.{_≡_, sym, ap, _∙_}
@@ -17,7 +17,7 @@ pub record BeforeFrom (L : ℕ) (rank : ℕ → ℕ) (r : ℕ) (A B : Set) : Typ
   pub high : r ≤ rank (by .at)
 
 -- S has P and every entry of rank below r; from r up no set that has P comes before it
-pub record Down (P : Set → Type 0) (L : ℕ) (rank : ℕ → ℕ) (r : ℕ) (S : Set) : Type 0 where
+pub record FirstFrom (P : Set → Type 0) (L : ℕ) (rank : ℕ → ℕ) (r : ℕ) (S : Set) : Type 0 where
   pub has : P S
   pub full : (x : ℕ) → x < L → rank x < r → S x ≡ true
   pub least : (B : Set) → P B → AgreeFrom L rank r S B ⊎ BeforeFrom L rank r S B
@@ -39,7 +39,7 @@ module _ (P : Set → Type 0) (L : ℕ) (rank : ℕ → ℕ) where
       }
 
   -- the entries of ranks from k up to r are left out
-  module _ (k r : ℕ) (S T : Set) (d : Down P L rank r S) (h : k ≤ r) (c : Cleared L rank k r S T) where
+  module _ (k r : ℕ) (S T : Set) (d : FirstFrom P L rank r S) (h : k ≤ r) (c : Cleared L rank k r S T) where
     -- at the highest difference from a set that agrees from r up, T is the one without the entry
     side : (B : Set) → AgreeFrom L rank r S B → Highest L rank k T B → BeforeFrom L rank k T B
     side B e w = under (decLt (rank (w .at)) r)
@@ -51,15 +51,15 @@ module _ (P : Set → Type 0) (L : ℕ) (rank : ℕ → ℕ) where
             (λ u. absurd (clash (u .0) (c .out (w .at) (w .below) (w .from) g)))
             (apart (T (w .at)) (B (w .at)) (w .differ))
 
-    left-out : P T → Down P L rank k T
-    left-out p = record {
+    down-leaves : P T → FirstFrom P L rank k T
+    down-leaves p = record {
       has = p;
       full = λ x l m. c .low x l m ∙ d .full x l (omega arith);
       least = λ B q. ⊎-elim (λ e. ⊎-elim inl (λ w. inr (side B e w)) (highest rank k T B L)) (λ b. inr (carry r k S T B h (c .high) b)) (d .least B q);
     }
 
   -- x stays, since the rest lacks P
-  module _ (ties : NoTies L rank) (up : Upward L P) (x r : ℕ) (S T U : Set) (d : Down P L rank r S) (next : Next L rank r x)
+  module _ (ties : NoTies L rank) (up : Upward L P) (x r : ℕ) (S T U : Set) (d : FirstFrom P L rank r S) (next : Next L rank r x)
       (c : Cleared L rank (rank x) r S T) (n : P T → ⊥) (e : Agree L S U) where
     only : (y : ℕ) → y < L → rank x ≤ rank y → rank y < r → y ≡ x
     only y l m g = let t = next .top y l g in ties y x l (next .entry) (omega arith)
@@ -81,8 +81,8 @@ module _ (P : Set → Type 0) (L : ℕ) (rank : ℕ → ℕ) where
         go (no w) = sym (e y l) ∙ a y l (omega arith)
         go (yes w) = sym (e y l) ∙ d .full y l w ∙ sym (ap B (only y l g w) ∙ m)
 
-    kept : Down P L rank (rank x) U
-    kept =
+    down-keeps : FirstFrom P L rank (rank x) U
+    down-keeps =
         let u = next .under in
         record {
           has = up S U (λ y l h. sym (e y l) ∙ h) (d .has);
@@ -91,10 +91,10 @@ module _ (P : Set → Type 0) (L : ℕ) (rank : ℕ → ℕ) where
         }
 
 module _ {P : Set → Type 0} {L : ℕ} {rank : ℕ → ℕ} (ties : NoTies L rank) (up : Upward L P) where
-  pub down : {r : ℕ} {S : Set} → GoneDown P L rank r S → Down P L rank r S
+  pub down : {r : ℕ} {S : Set} → GoneDown P L rank r S → FirstFrom P L rank r S
   down (start p f h) = record { has = p; full = λ x l m. f x l; least = λ B q. inl (λ x l m. absurd (omega (arith, h x l))) }
-  down (leaves d h c p) = left-out P L rank _ _ _ _ (down d) h c p
-  down (keeps d next c n e) = kept P L rank ties up _ _ _ _ _ (down d) next c n e
+  down (leaves d h c p) = down-leaves P L rank _ _ _ _ (down d) h c p
+  down (keeps d next c n e) = down-keeps P L rank ties up _ _ _ _ _ (down d) next c n e
 
   -- with no rank still to come, what stands is the first set
   pub ends-first : {r : ℕ} {S : Set} → GoneDown P L rank r S → ((x : ℕ) → x < L → r ≤ rank x) → First P L rank S

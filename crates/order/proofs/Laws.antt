@@ -1,4 +1,5 @@
--- The order of sets is a strict total order up to agreement, and a first set is one only. Assumes nothing.
+-- The order of sets is a strict total order up to agreement, and a first set is one only.
+-- Assumes nothing.
 use Prim.Native.Nat.{ℕ, zero, suc, _≤_, _<_}
 use mathlib.Core.Path.{_≡_, refl, sym, ap, _∙_}
 use mathlib.Core.Logic.{_⊎_, inl, inr, ⊎-elim}

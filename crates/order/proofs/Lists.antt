@@ -108,6 +108,7 @@ pub not-empty : (P : Set → Type 0) (L : ℕ) → Upward L P → (P (λ x. fals
 not-empty P L up n A b zero p l = absurd (n (up A (λ x. false) (λ x h e. let t = l .all x h e in let u = t .1 in absurd (omega arith)) p))
 not-empty P L up n A b (suc k) p l = omega arith
 
+-- what stands in a list is in its set, and the other way
 pub set-in : (es : List ℕ) (i : ℕ) → i < length es → setOf es (getD es i 0) ≡ true
 set-in [] i h = absurd (omega arith)
 set-in (y ∷ ys) zero h = rw (eq-eqb y y)
@@ -121,12 +122,14 @@ set-at (y ∷ ys) x e = go (ℕ-discrete x y) (set-at ys x)
     go (yes p) later = (0, omega arith, sym p)
     go (no p) later = let (i, h, q) = later (rw (ne-eqb x y p) at e) in (suc i, omega arith, q)
 
-pub set-listed : (L : ℕ) (es : List ℕ) → ((i : ℕ) → i < length es → getD es i 0 < L) →
+-- a rising list of entries is the list of its own set
+pub lists-itself : (L : ℕ) (es : List ℕ) → ((i : ℕ) → i < length es → getD es i 0 < L) →
     ((i j : ℕ) → i < j → j < length es → getD es i 0 < getD es j 0) → Listed L (setOf es) es (length es)
-set-listed L es entry rising = record { entry = entry; one = set-in es; rising = rising; all = λ x l. set-at es x }
+lists-itself L es entry rising = record { entry = entry; one = set-in es; rising = rising; all = λ x l. set-at es x }
 
-pub listed-set : (L : ℕ) (A : Set) (es : List ℕ) → Listed L A es (length es) → Agree L A (setOf es)
-listed-set L A es p x l = go (Bool-discrete (A x) (setOf es x))
+-- the set that a list lists is the list's own
+pub listed-agrees : (L : ℕ) (A : Set) (es : List ℕ) → Listed L A es (length es) → Agree L A (setOf es)
+listed-agrees L A es p x l = go (Bool-discrete (A x) (setOf es x))
   where
     go : Dec (A x ≡ setOf es x) → A x ≡ setOf es x
     go (yes e) = e
@@ -135,7 +138,7 @@ listed-set L A es p x l = go (Bool-discrete (A x) (setOf es x))
         (λ e. let (i, h, q) = p .all x l (e .0) in clash (sym (ap (setOf es) q) ∙ set-in es i h) (e .1))
         (apart (A x) (setOf es x) d))
 
--- what rises from 0 on has reached i at i
+-- a rising list of entries is no longer than there are entries: what rises has reached i at place i
 pub listed-short : (L : ℕ) (A : Set) (es : List ℕ) (k : ℕ) → Listed L A es k → k ≤ L
 listed-short L A es zero p = omega arith
 listed-short L A es (suc k) p = omega (arith, reached k (omega arith), p .entry k (omega arith))

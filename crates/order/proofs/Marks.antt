@@ -33,10 +33,10 @@ module _ {P : Set → Type 0} {L r : ℕ} (x : ℕ) (m : List Bool) (s : suc x �
   next : Next L number r x
   next = record { entry = omega arith; under = omega arith; top = λ y l p. omega arith }
 
-  pub turn-out : P (marked (set m x false)) → GoneDown P L number x (marked (set m x false))
-  turn-out p = leaves {k = x} d (omega arith) (taken L x m (omega arith) r s) p
+  pub number-leaves : P (marked (set m x false)) → GoneDown P L number x (marked (set m x false))
+  number-leaves p = leaves {k = x} d (omega arith) (taken L x m (omega arith) r s) p
 
-  pub turn-in : Upward L P → (P (marked (set m x false)) → ⊥) → GoneDown P L number x (marked (set (set m x false) x true))
-  turn-in up n =
+  pub number-keeps : Upward L P → (P (marked (set m x false)) → ⊥) → GoneDown P L number x (marked (set (set m x false) x true))
+  number-keeps up n =
       let e = down (number-ties L) up d .full x (next .entry) (next .under) in
       keeps {x = x} d next (taken L x m (omega arith) r s) n (put-back L x m (omega arith) e)

@@ -11,18 +11,18 @@ pub record Next (L : ℕ) (rank : ℕ → ℕ) (r x : ℕ) : Type 0 where
   pub under : rank x < r
   pub top : (y : ℕ) → y < L → rank y < r → rank y ≤ rank x
 
--- T is S without the entries of ranks from lo up to hi
+-- T is S without the entries of ranks from lo to hi, lo included and hi not
 pub record Cleared (L : ℕ) (rank : ℕ → ℕ) (lo hi : ℕ) (S T : Set) : Type 0 where
   pub out : (x : ℕ) → x < L → lo ≤ rank x → rank x < hi → T x ≡ false
   pub low : (x : ℕ) → x < L → rank x < lo → T x ≡ S x
   pub high : (x : ℕ) → x < L → hi ≤ rank x → T x ≡ S x
 
--- the ranks from r up are done, and S is what stands
+-- the ranks from r on, r included, are done, and S is what stands
 pub data GoneDown (P : Set → Type 0) (L : ℕ) (rank : ℕ → ℕ) : ℕ → Set → Type 0 where
   -- at first every entry is in, and every rank is still to come
   start : {r : ℕ} {S : Set} → P S → ((x : ℕ) → x < L → S x ≡ true) → ((x : ℕ) → x < L → rank x < r) → GoneDown P L rank r S
-  -- where the rest still has P, the next entries are left out
+  -- T, which is S without the next entries, has P: they are left out
   leaves : {k r : ℕ} {S T : Set} → GoneDown P L rank r S → k ≤ r → Cleared L rank k r S T → P T → GoneDown P L rank k T
-  -- where the rest without x lacks P, x is needed and stays
+  -- T, which is S without the next entry x, lacks P: x is needed and stays, and U is S again
   keeps : {x r : ℕ} {S T U : Set} → GoneDown P L rank r S → Next L rank r x → Cleared L rank (rank x) r S T → (P T → ⊥) → Agree L S U →
       GoneDown P L rank (rank x) U

@@ -15,14 +15,14 @@ use Rattle.sheet.proofs.Decode.{length-each}
 use Rattle.meaning.specs.Meaning.{Clashes}
 use Rattle.meaning.proofs.Meaning.{meet-fewer, clashes-upward}
 use Rattle.refusal.specs.Table.{fine, refused, refusal}
+use Rattle.refusal.proofs.Replies.{fine-refused}
 use Rattle.answer.specs.Record.{holdsRecord, clashesRecord}
 use Rattle.answer.proofs.Tells.{holds-length, clashes-length}
 use Rattle.values.specs.Settled.{Settled}
 use Rattle.values.specs.Written.{recordLength, listed, Written}
 use Rattle.blame.specs.Blamed.{Blamed}
 use Rattle.blame.proofs.Blame.{all-marked}
-use Rattle.panel.specs.Answered.{over, SaysHolds, SaysClashes, Judged, Answered}
-use Rattle.panel.proofs.Accepted.{fine-refused}
+use Rattle.panel.specs.Answered.{over, SaysHolds, SaysClashes, Decided, Answered}
 
 -- a record in the first bytes, and past it the bytes as they were
 recorded : (answer old new : List ℕ) → length new ≡ length old → (size : ℕ) → size ≡ length answer → take size new ≡ answer →
@@ -62,11 +62,11 @@ module _ (s : Sheet) (old new : List ℕ) (same : length new ≡ length old) whe
         room-is = recorded _ old new same size e (b .bytes) (b .kept);
       }
 
-pub sent : (sheet old : List ℕ) (N P : ℕ) → refusal sheet (length old) ≡ refused N P → Answered sheet old old N P
-sent sheet old N P e = record {
+pub answered-refused : (sheet old : List ℕ) (N P : ℕ) → refusal sheet (length old) ≡ refused N P → Answered sheet old old N P
+answered-refused sheet old N P e = record {
   sent-back = λ Q R q. record { number-is = cc; place-is = cc; room-is = refl };
   judged = λ f. absurd (fine-refused f e);
 }
 
-pub given : (sheet old new : List ℕ) (N P : ℕ) → refusal sheet (length old) ≡ fine → Judged (sheetOf sheet) old new N P → Answered sheet old new N P
-given sheet old new N P e j = record { sent-back = λ Q R q. absurd (fine-refused e q); judged = λ f. j }
+pub answered-decided : (sheet old new : List ℕ) (N P : ℕ) → refusal sheet (length old) ≡ fine → Decided (sheetOf sheet) old new N P → Answered sheet old new N P
+answered-decided sheet old new N P e j = record { sent-back = λ Q R q. absurd (fine-refused e q); judged = λ f. j }

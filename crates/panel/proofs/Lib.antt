@@ -1,4 +1,3 @@
-pub mod Accepted
 pub mod Unique
 mod Listing
 mod Join

@@ -1,12 +1,13 @@
 -- The reply is unique but for the choice of values, and it is a refusal exactly when the table says so.
 -- Assumes nothing.
 use Prim.Native.Nat.{ℕ, _+_, _*_, _≤_}
-use mathlib.Core.Path.{_≡_, refl, _∙_}
+use mathlib.Core.Path.{_≡_, refl, sym, ap, _∙_}
 use mathlib.Core.Logic.{inl, inr}
-use mathlib.Core.List.{List}
-use lib.ListN.{length}
-use lib.Seq.{ext-getD}
+use mathlib.Core.List.{List, [], _∷_, _++_}
+use lib.ListN.{length, take, drop}
+use lib.Seq.{ext-getD, take-append-seam, drop-append-seam}
 use native.Mathlib.Omega.{arith}
+use Rattle.big.specs.Big.{bytesOf}
 use Rattle.order.specs.First.{Set, every, setOf, number, Agree, Within}
 use Rattle.order.proofs.Laws.{number-ties, minimal}
 use Rattle.order.proofs.Lists.{first-list-unique}
@@ -17,12 +18,13 @@ use Rattle.meaning.specs.Meaning.{Holds, Clashes, FirstClash}
 use Rattle.meaning.proofs.Meaning.{clashes-upward}
 use Rattle.refusal.specs.Table.{Reply, fine, refused, refusal}
 use Rattle.refusal.proofs.Fine.{fine-formed}
-use Rattle.answer.specs.Record.{ListWithin}
+use Rattle.refusal.proofs.Replies.{fine-refused, fine-sheet, refused-ten}
+use Rattle.answer.specs.Record.{holdsRecord, clashesRecord, ListWithin, AnswerForm, holds as form-holds, clashes as form-clashes}
 use Rattle.answer.proofs.Tells.{holds-length, clashes-length}
 use Rattle.values.specs.Written.{listed}
-use Rattle.panel.specs.Answered.{SaysHolds, SaysClashes, Judged, Answered}
+use Rattle.panel.specs.Answered.{SaysHolds, SaysClashes, Decided, Answered}
+use Rattle.panel.specs.OneReply.{OneReply}
 use Rattle.panel.proofs.Listing.{within-listed, within-short}
-use Rattle.panel.proofs.Accepted.{fine-refused, fine-sheet, refused-ten}
 
 -- the first list of a sheet is one only
 module _ (s : Sheet) where
@@ -61,26 +63,53 @@ module _ {s : Sheet} {old new old' new' : List ℕ} {N P N' P' : ℕ} where
   pub one-list : (c : SaysClashes s old new N P) (c' : SaysClashes s old' new' N' P') → c .list ≡ c' .list
   one-list c c' = one-first s (c .list) (c' .list) (c .first) (c' .first) (c .within) (c' .within)
 
-judged-unique : {s : Sheet} {old new new' : List ℕ} {N P N' P' : ℕ} → Judged s old new N P → Judged s old new' N' P' →
-    (N ≡ N') × (P ≡ P') × ((N ≡ 0 → ⊥) → new ≡ new')
-judged-unique (inl h) (inl h') = (cc, cc (holds-place h, holds-place h'), λ n. absurd (n (h .number-is)))
-judged-unique (inl h) (inr c) = absurd (exclusive h c)
-judged-unique (inr c) (inl h) = absurd (exclusive h c)
-judged-unique (inr c) (inr c') = let e = one-list c c' in (cc, cc, λ n. cc)
+-- what any values leave: the record's length, its 1 and its 0, its zero, and the bytes past it
+module _ {s : Sheet} {old new : List ℕ} {N P : ℕ} (h : SaysHolds s old new N P) where
+  head-fixed : take 4 new ≡ bytesOf 2 P ++ (1 ∷ 0 ∷ [])
+  unfolding holdsRecord bytesOf
+  head-fixed = ap (take 4) (h .room-is) ∙ ap (λ (n : ℕ). bytesOf 2 n ++ (1 ∷ 0 ∷ [])) (sym (h .place-is ∙ holds-length (h .D) (listed s (h .n))))
+
+  zero-fixed : take 2 (drop 6 new) ≡ bytesOf 2 0
+  unfolding holdsRecord bytesOf
+  zero-fixed = ap (λ (b : List ℕ). take 2 (drop 6 b)) (h .room-is)
+
+  past-fixed : drop P new ≡ drop P old
+  past-fixed = rw (h .place-is, h .room-is) (drop-append-seam (holdsRecord (h .D) (listed s (h .n))) _)
+
+same-room : {N P N' P' : ℕ} {new new' : List ℕ} → N ≡ N' → P ≡ P' → new ≡ new' → OneReply N P new N' P' new'
+same-room {P = P} n p e = record {
+  number = n;
+  place = p;
+  room = λ h. e;
+  values = λ h. record { head = ap (take 4) e; zero = ap (λ (b : List ℕ). take 2 (drop 6 b)) e; past = ap (drop P) e };
+}
+
+decided-unique : {s : Sheet} {old new new' : List ℕ} {N P N' P' : ℕ} → Decided s old new N P → Decided s old new' N' P' → OneReply N P new N' P' new'
+decided-unique (inl h) (inl h') =
+    let p = holds-place h ∙ sym (holds-place h') in
+    record {
+      number = h .number-is ∙ sym (h' .number-is);
+      place = p;
+      room = λ n. absurd (n (h .number-is));
+      values = λ n. record { head = cc (head-fixed h, head-fixed h'); zero = zero-fixed h ∙ sym (zero-fixed h'); past = cc (past-fixed h, past-fixed h') };
+    }
+decided-unique (inl h) (inr c) = absurd (exclusive h c)
+decided-unique (inr c) (inl h) = absurd (exclusive h c)
+decided-unique (inr c) (inr c') = let e = one-list c c' in same-room (cc) (cc) (cc)
 
 module _ {sheet old new : List ℕ} {N P : ℕ} (a : Answered sheet old new N P) where
-  pub reply-unique : {new' : List ℕ} {N' P' : ℕ} → Answered sheet old new' N' P' → (N ≡ N') × (P ≡ P') × ((N ≡ 0 → ⊥) → new ≡ new')
+  pub reply-unique : {new' : List ℕ} {N' P' : ℕ} → Answered sheet old new' N' P' → OneReply N P new N' P' new'
   reply-unique {new'} {N'} {P'} b = go (refusal sheet (length old)) refl
     where
-      go : (r : Reply) → refusal sheet (length old) ≡ r → (N ≡ N') × (P ≡ P') × ((N ≡ 0 → ⊥) → new ≡ new')
-      go fine e = judged-unique (a .judged e) (b .judged e)
-      go (refused Q R) e = let p = a .sent-back Q R e in let q = b .sent-back Q R e in (cc, cc, λ n. cc)
+      go : (r : Reply) → refusal sheet (length old) ≡ r → OneReply N P new N' P' new'
+      go fine e = decided-unique (a .judged e) (b .judged e)
+      go (refused Q R) e = let p = a .sent-back Q R e in let q = b .sent-back Q R e in same-room (cc) (cc) (cc)
 
   -- sent back exactly when the table says so
   pub refused-exactly : (10 ≤ N → refusal sheet (length old) ≡ refused N P) × ((Q R : ℕ) → refusal sheet (length old) ≡ refused Q R → 10 ≤ N)
   refused-exactly = go (refusal sheet (length old)) refl
     where
-      small : Judged (sheetOf sheet) old new N P → 10 ≤ N → ⊥
+      small : Decided (sheetOf sheet) old new N P → 10 ≤ N → ⊥
       small (inl h) l = omega (arith, h .number-is)
       small (inr c) l = omega (arith, c .number-is)
 
@@ -95,20 +124,32 @@ module _ {sheet old new : List ℕ} {N P : ℕ} (a : Answered sheet old new N P)
   pub no-entries-holds : refusal sheet (length old) ≡ fine → countEntries (sheetOf sheet) ≡ 0 → N ≡ 0
   no-entries-holds e none = go (a .judged e)
     where
-      go : Judged (sheetOf sheet) old new N P → N ≡ 0
+      go : Decided (sheetOf sheet) old new N P → N ≡ 0
       go (inl h) = h .number-is
       go (inr c) = absurd (omega (arith, c .within .some, list-short c))
 
-  -- the list of a clash stands in the room, behind the eight bytes of the record's head
-  pub clash-fits : N ≡ 1 → (8 ≤ P) × (P ≤ length old)
-  clash-fits one = go (refusal sheet (length old)) refl
+  -- a verdict's record has answer form and stands in the room, which a head of eight bytes begins
+  pub answer-form : N ≤ 1 → AnswerForm (take P new) × (8 ≤ P) × (P ≤ length old)
+  answer-form small = go (refusal sheet (length old)) refl
     where
-      stands : refusal sheet (length old) ≡ fine → Judged (sheetOf sheet) old new N P → (8 ≤ P) × (P ≤ length old)
-      stands e (inl h) = absurd (omega (arith, h .number-is))
+      stands : refusal sheet (length old) ≡ fine → Decided (sheetOf sheet) old new N P → AnswerForm (take P new) × (8 ≤ P) × (P ≤ length old)
+      stands e (inl h) =
+          let (formed, room) = fine-sheet sheet (length old) e in
+          let wf = fine-formed sheet formed .1 in
+          let T = length-each (countTerms (sheetOf sheet)) (h .n) in (
+            rw (h .place-is, h .room-is, take-append-seam (holdsRecord (h .D) (listed (sheetOf sheet) (h .n))) _)
+                (form-holds {ns = listed (sheetOf sheet) (h .n)} (omega (arith, wf .some)) (omega (arith, wf .terms)) (h .within)),
+            omega (arith, holds-place h),
+            omega (arith, holds-place h, wf .terms),
+          )
       stands e (inr c) =
           let (formed, room) = fine-sheet sheet (length old) e in
-          omega (arith, clashes-place c, list-short c, fine-formed sheet formed .1 .entries)
+          let wf = fine-formed sheet formed .1 in (
+            rw (c .place-is, c .room-is, take-append-seam (clashesRecord (c .list)) _) (form-clashes (wf .entries) (c .within)),
+            omega (arith, clashes-place c),
+            omega (arith, clashes-place c, list-short c, wf .entries),
+          )
 
-      go : (r : Reply) → refusal sheet (length old) ≡ r → (8 ≤ P) × (P ≤ length old)
+      go : (r : Reply) → refusal sheet (length old) ≡ r → AnswerForm (take P new) × (8 ≤ P) × (P ≤ length old)
       go fine e = stands e (a .judged e)
       go (refused Q R) e = absurd (omega (arith, refused-ten sheet (length old) Q R e, a .sent-back Q R e .number-is))

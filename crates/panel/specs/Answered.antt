@@ -58,10 +58,10 @@ pub record SaysClashes (s : Sheet) (old new : List ℕ) (number place : ℕ) : T
   pub room-is : new ≡ over (clashesRecord list) old
 
 -- one of the two: the meaning decides which
-abbrev pub Judged : Sheet → (old new : List ℕ) (number place : ℕ) → Type 0
-Judged s old new number place = SaysHolds s old new number place ⊎ SaysClashes s old new number place
+abbrev pub Decided : Sheet → (old new : List ℕ) (number place : ℕ) → Type 0
+Decided s old new number place = SaysHolds s old new number place ⊎ SaysClashes s old new number place
 
 -- the promise: the table decides whether the sheet is sent back
 pub record Answered (sheet old new : List ℕ) (number place : ℕ) : Type 0 where
   pub sent-back : (N P : ℕ) → refusal sheet (length old) ≡ refused N P → SentBack N P old new number place
-  pub judged : refusal sheet (length old) ≡ fine → Judged (sheetOf sheet) old new number place
+  pub judged : refusal sheet (length old) ≡ fine → Decided (sheetOf sheet) old new number place

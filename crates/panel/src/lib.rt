@@ -7,7 +7,7 @@ ghost use lib.ListN.{length};
 ghost use Rattle.sheet.specs.Decode.{Sized, sheetOf};
 ghost use Rattle.sheet.specs.Limits.{roomNeeded};
 ghost use Rattle.sheet.specs.Sheet.{WellFormed};
-ghost use Rattle.panel.specs.Answered.{numberOf, placeOf, Judged, Answered};
+ghost use Rattle.panel.specs.Answered.{numberOf, placeOf, Decided, Answered};
 use refusal::Checked;
 use refusal::Refusal;
 use verdict::Verdict;
@@ -54,7 +54,7 @@ pub fn judge(sheet: &[u8], room: &mut [u8]) -> Answer
 // The answer to a sheet that isn't sent back.
 fn decide(sheet: &[u8], room: &mut [u8]) -> Answer
     requires { ⌜ Sized (now sheet) × WellFormed (sheetOf (now sheet)) × (roomNeeded ≤ length (now room)) ⌝ }
-    ensures { λ r. ⌜ Judged (sheetOf (now (sheet .entry))) (now (room .entry)) (now (room .exit)) (numberOf r) (placeOf r) ⌝ }
+    ensures { λ r. ⌜ Decided (sheetOf (now (sheet .entry))) (now (room .entry)) (now (room .exit)) (numberOf r) (placeOf r) ⌝ }
 {
     let every = [true; sheet::MAX_ENTRIES];
     let mut d = [0u32; table::CELLS];

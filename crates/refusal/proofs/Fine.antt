@@ -13,8 +13,9 @@ use Rattle.sheet.specs.Limits.{maxTerms, maxEntries}
 use Rattle.sheet.specs.Sheet.{unknown, ArgumentsBelow, of-unknown, of-number, of-shift, of-apply, of-apply2, WellFormed}
 use Rattle.sheet.specs.Decode.{statedTerms, statedEntries, entryPlace, fieldsAt, termKinds, decodeTerm, decodeEntry, sheetOf, Sized}
 use Rattle.sheet.proofs.Decode.{terms-stated, entries-stated, term-decoded, entry-decoded}
-use Rattle.refusal.specs.Table.{Reply, fine, _then_, given, nonZero, notBelow, wrongLength, wrongVersion, wrongShape, wrongKinds, wrongTerm, wrongEntry, wrongTermOf, wrongEntryOf, lowest, sheetRefusal}
+use Rattle.refusal.specs.Table.{fine, nonZero, notBelow, wrongLength, wrongVersion, wrongShape, wrongKinds, wrongTerm, wrongEntry, wrongTermOf, wrongEntryOf, lowest, sheetRefusal}
 use Rattle.refusal.proofs.Lowest.{lowest-clear}
+use Rattle.refusal.proofs.Replies.{passed, last-passed}
 
 neither : (a b : Bool) → a || b ≡ false → (a ≡ false) × (b ≡ false)
 neither true b e = absurd (true≢false e)
@@ -68,15 +69,6 @@ term-fine i f = go (f .kind)
 pub entry-fine : (T : ℕ) (f : Fields) → wrongEntry T f ≡ false → (f .a < T) × (f .b < T)
 unfolding wrongEntry
 entry-fine T f e = let (a, b) = last-two (ltb 3 (f .kind) || nonZero (f .symbol)) _ _ e in (below _ _ a, below _ _ b)
-
--- what a row that doesn't apply leaves
-passed : (t : Bool) (number place : ℕ) (r : Reply) → given t number place then r ≡ fine → (t ≡ false) × (r ≡ fine)
-passed true number place r e = let z : _≡_ {A = ℕ} 0 1 = cc in absurd (omega arith)
-passed false number place r e = (refl, e)
-
-last-passed : (t : Bool) (number place : ℕ) → given t number place ≡ fine → t ≡ false
-last-passed true number place e = let z : _≡_ {A = ℕ} 0 1 = cc in absurd (omega arith)
-last-passed false number place e = refl
 
 pub fine-formed : (b : List ℕ) → sheetRefusal b ≡ fine → Sized b × WellFormed (sheetOf b)
 unfolding sheetRefusal wrongTermOf wrongEntryOf decodeEntry

@@ -1,4 +1,5 @@
--- `big::read` meets its contract: v is the number of the k bytes read, and one byte more fits, as k < width ≤ 8. Assumes nothing.
+-- `big::read` meets its contract: v is the number of the k bytes read, and one byte more fits, as k < width ≤ 8.
+-- Assumes nothing.
 use Prim.Native.Nat.{_+_, _-_, _^_, _≤_, _<_}
 use mathlib.Core.Path.{_≡_, refl}
 use native.Mathlib.Omega.{arith}

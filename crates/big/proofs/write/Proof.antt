@@ -1,4 +1,5 @@
--- `big::write` meets its contract: the bytes are written from the last to the first (Writing.antt). Assumes nothing.
+-- `big::write` meets its contract: the bytes are written from the last to the first (Writing.antt).
+-- Assumes nothing.
 use Prim.Native.Nat.{_≤_}
 use mathlib.Core.Path.{_≡_, refl}
 use lib.ListN.{length, length-set}

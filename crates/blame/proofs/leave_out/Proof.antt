@@ -10,7 +10,7 @@ use Rattle.order.specs.First.{marked, number}
 use Rattle.order.specs.Down.{GoneDown, start}
 use Rattle.order.proofs.Laws.{number-ties}
 use Rattle.order.proofs.Greedy.{ends-first}
-use Rattle.order.proofs.Marks.{turn-out, turn-in}
+use Rattle.order.proofs.Marks.{number-leaves, number-keeps}
 use Rattle.sheet.specs.Decode.{sheetOf}
 use Rattle.sheet.specs.Sheet.{countEntries}
 use Rattle.meaning.specs.Meaning.{Clashes}
@@ -42,7 +42,7 @@ loop-again c =
       omega arith,
       simp length-set (omega arith),
       omega arith,
-      turn-in _ (loop .marks) (omega arith) (omega arith) (omega arith) (loop .inv .3) (clashes-upward _) (asked .clashes .ensures .0 .no (not-true _ (c .if1 .taken))),
+      number-keeps _ (loop .marks) (omega arith) (omega arith) (omega arith) (loop .inv .3) (clashes-upward _) (asked .clashes .ensures .0 .no (not-true _ (c .if1 .taken))),
     )
 
 loop-again-2 : tie.Need-loop-again-2 Inv-loop μ-loop
@@ -52,7 +52,7 @@ loop-again-2 c =
       omega arith,
       simp length-set (omega arith),
       omega arith,
-      turn-out _ (loop .marks) (omega arith) (omega arith) (omega arith) (loop .inv .3) (asked .clashes .ensures .0 .yes (not-false _ (c .if1 .left))),
+      number-leaves _ (loop .marks) (omega arith) (omega arith) (omega arith) (loop .inv .3) (asked .clashes .ensures .0 .yes (not-false _ (c .if1 .left))),
     )
 
 returns : tie.Need-returns Inv-loop μ-loop

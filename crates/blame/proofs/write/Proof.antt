@@ -10,7 +10,7 @@ use Rattle.blame.proofs.write.Tie as tie
 
 leave-out-requires : tie.Need-leave-out-requires
 leave-out-requires c κs =
-    let begun = c .before .before .before in
+    let begun = c .before .before .before .before in
     let wf = begun .pre .0 .1 in
     ((begun .pre .0 .0, wf, wf .entries), (clashes-upward _ every _ (λ x l h. all-marked wf x l) (begun .pre .1 .0), λ x l. all-marked wf x l))
 
@@ -18,12 +18,17 @@ returns : tie.Need-returns
 returns c =
     let headed = c .before .before in
     let listed = headed .before .before .before .before in
-    let left = listed .before .before .before .before .before in
-    let begun = left .before .before .before .before in
-    blamed _ (begun .pre .0 .1) _ (left .leave-out .ensures) _ _ _ _ (omega arith) (rw (listed .before .before .count-entries .ensures .0) at (listed .list .ensures .1 .0)) (listed .list .ensures .1 .1) (headed .head .ensures) (λ k. c .slice-known3 .given k .fits)
+    let left = listed .before .before .before .before in
+    let counted = left .before .before in
+    let begun = counted .before .before .before in
+    blamed _ (begun .pre .0 .1) _ (left .leave-out .ensures) _ _ _ _ (omega arith)
+    (rw (counted .count-entries .ensures .0) at (listed .list .ensures .1 .0))
+    (listed .list .ensures .1 .1)
+    (headed .head .ensures)
+    (λ k. c .slice-known3 .given k .fits)
 
 pub write-spec : {M : Type 1} → statement M
 write-spec =
     tie.close
-    (tie.spec (λ c. search needs) leave-out-requires (λ c. search needs) (λ c κs. search needs) (λ c κs. search needs) (λ c. search needs)
+    (tie.spec (λ c κs. search needs) (λ c. search needs) leave-out-requires (λ c. search needs) (λ c κs. search needs) (λ c. search needs)
     (λ c κs. search needs) (λ c. search needs) (λ c. search needs) returns)

@@ -6,7 +6,7 @@ use native.Mathlib.Omega.{arith}
 use borrow.Author.Needs.{needs}
 use Rattle.sheet.specs.Limits.{roomNeeded}
 use Rattle.panel.specs.Answered.{numberOf, placeOf}
-use Rattle.panel.proofs.Unique.{clash-fits}
+use Rattle.panel.proofs.Unique.{answer-form}
 use Rattle.judge.proofs.main.Statement.{statement}
 use Rattle.judge.proofs.main.Tie as tie
 
@@ -14,7 +14,7 @@ stands : (c : tie.After-write-all2) → (8 ≤ c .before .before .before .size .
 stands c =
     let known = c .before .before .before in
     let clash = known .size .given .1 in
-    omega (arith, clash-fits (known .before .before .before .judge .ensures) (ap numberOf clash), ap placeOf clash)
+    omega (arith, answer-form (known .before .before .before .judge .ensures) (omega (arith, ap numberOf clash)), ap placeOf clash)
 
 sub-print-list : tie.Need-sub-print-list
 sub-print-list c = stands c .0

@@ -4,8 +4,8 @@ use mathlib.Core.Path.{sym, ap, _∙_}
 use borrow.Author.Needs.{needs}
 use Rattle.refusal.specs.Says.{checkSays}
 use Rattle.refusal.proofs.Fine.{fine-formed}
-use Rattle.panel.proofs.Accepted.{fine-sheet}
-use Rattle.panel.proofs.Join.{sent, given}
+use Rattle.refusal.proofs.Replies.{fine-sheet}
+use Rattle.panel.proofs.Join.{answered-refused, answered-decided}
 use Rattle.panel.proofs.judge.Statement.{statement}
 use Rattle.panel.proofs.judge.Tie as tie
 
@@ -20,12 +20,12 @@ decide-requires c κs =
 returns : tie.Need-returns
 returns c =
     let told = c .before in
-    sent _ _ _ _ (sym (told .before .before .check .ensures) ∙ ap checkSays (told .why .given .1))
+    answered-refused _ _ _ _ (sym (told .before .before .check .ensures) ∙ ap checkSays (told .why .given .1))
 
 returns-2 : tie.Need-returns-2
 returns-2 c =
     let told = c .before .before .before .before in
-    given _ _ _ _ _ (sym (told .before .before .check .ensures) ∙ ap checkSays (told .enum-told .given .1)) (c .before .before .decide .ensures)
+    answered-decided _ _ _ _ _ (sym (told .before .before .check .ensures) ∙ ap checkSays (told .enum-told .given .1)) (c .before .before .decide .ensures)
 
 pub judge-spec : {M : Type 1} → statement M
 judge-spec =

@@ -1,4 +1,5 @@
--- What the table's reply tells: what isn't sent back has room enough, in any larger room too, and what is has a number of 10 or more.
+-- What a reply of the table tells: of a sheet that isn't sent back no row applies, in no larger room either, and one that is has a
+-- number of 10 or more.
 -- Assumes nothing.
 use Prim.Native.Nat.{ℕ, _≤_}
 use mathlib.Core.Path.{_≡_, refl, sym, subst}
@@ -9,15 +10,23 @@ use native.Mathlib.Omega.{arith}
 use borrow.Author.Tests.{ltb-false}
 use Rattle.sheet.specs.Limits.{roomNeeded}
 use Rattle.sheet.specs.Decode.{statedTerms, statedEntries}
 use Rattle.refusal.specs.Table.{Reply, fine, refused, _then_, given, givenLowest, wrongLength, wrongVersion, wrongShape, wrongTermOf, wrongEntryOf, lowest, sheetRefusal, refusal}
 use Rattle.refusal.proofs.Rows.{all-fine}
 
 pub fine-refused : {r : Reply} {number place : ℕ} → r ≡ fine → r ≡ refused number place → ⊥
 fine-refused p q = let z : _≡_ {A = ℕ} 0 1 = cc in omega arith
 
+-- what a row that doesn't apply leaves
+pub passed : (t : Bool) (number place : ℕ) (r : Reply) → given t number place then r ≡ fine → (t ≡ false) × (r ≡ fine)
+passed true number place r e = absurd (fine-refused e refl)
+passed false number place r e = (refl, e)
+
+pub last-passed : (t : Bool) (number place : ℕ) → given t number place ≡ fine → t ≡ false
+last-passed true number place e = absurd (fine-refused e refl)
+last-passed false number place e = refl
+
 both-fine : (r : Reply) (t : Bool) (number place : ℕ) → r then given t number place ≡ fine → (r ≡ fine) × (t ≡ false)
-both-fine fine true number place e = absurd (fine-refused e refl)
-both-fine fine false number place e = (refl, refl)
+both-fine fine t number place e = (refl, last-passed t number place e)
 both-fine (refused _ _) t number place e = absurd (fine-refused e refl)
 
 pub fine-sheet : (b : List ℕ) (room : ℕ) → refusal b room ≡ fine → (sheetRefusal b ≡ fine) × (roomNeeded ≤ room)
