@@ -10,11 +10,15 @@
 extern "C" {
 #endif
 
-/* No sheet is longer, and no answer record is: a room of this length is enough for every sheet. */
+/* The length of the longest sheet, 6 + 6 * 64 + 6 * 64. */
 #define BARUVKESH_LONGEST_SHEET 774
+
+/* The length of an answer room that is enough for every sheet, 8 + 8 * 64. */
 #define BARUVKESH_ROOM_NEEDED 520
 
-/* Judges the sheet, and answers number * 65536 + place:
+/* Judges the sheet, and answers number * 65536 + place. A sheet is the bytes of document 01: T terms (unknowns, numbers, shifts,
+ * applications of unknown functions) and L entries (=, !=, <=, <) over rational levels. It holds exactly when values exist that meet every
+ * term and entry, and clashes exactly when none exist:
  *
  *   number  given exactly when                                               place
  *   0       the sheet holds                                                  length of the answer record
@@ -27,7 +31,7 @@ extern "C" {
  *           argument not below its own number                                lowest such term
  *   14      an entry has kind over 3, a non-zero second byte, or a or b
  *           not below T                                                      lowest such entry
- *   15      room_length under 520                                            0
+ *   15      room_len under 520                                               0
  *
  * 10 to 15 are checked in that order, and the first that applies is given. With them the whole room keeps what it held. With 0 and 1
  * the room starts with the answer record, and the bytes past its length keep what they held:
@@ -38,13 +42,16 @@ extern "C" {
  *   3       0                                                                1
  *   4-5     D, 1 to 65535                                                    k, at least 1
  *   6-7     0                                                                0
- *   8 on    T signed values n, two's complement, 8 bytes each: the value     k entry numbers, rising,
- *           of a term is n / D                                               a byte each
+ *   8 on    T signed values n, two's complement, 8 bytes each, within        k entry numbers, rising,
+ *           plus or minus 2^40                                               a byte each
+ *
+ * The value of a term is n / D, and these values meet every term and entry. The k entries clash by themselves, and of all such lists they
+ * are the first: lists are compared by the highest-numbered entry that is in one and not in the other, and the list without it comes first.
  *
  * Numbers of several bytes are big-endian. The sheet is never written. Any bytes and any two lengths are allowed; with a length of 0
  * the pointer isn't followed and may be NULL. The sheet and the room may not overlap. The call keeps nothing between calls and asks for
  * no memory but the stack's, under 64 KB, so threads may call it at the same time, each with a room of its own. */
-uint32_t baruvkesh_judge(const uint8_t *sheet, size_t sheet_length, uint8_t *room, size_t room_length);
+uint32_t baruvkesh_judge(const uint8_t *sheet, size_t sheet_len, uint8_t *room, size_t room_len);
 
 /* The two halves of what baruvkesh_judge answers. */
 static inline unsigned baruvkesh_number(uint32_t answer) { return answer >> 16; }

@@ -1,7 +1,8 @@
 /* Judges the sheet on standard input and prints one line, as the program `judge` does: `holds`, `clashes` with the entry numbers, or
  * `refused N at P`.
  *
- *     cc -I bindings/c bindings/c/example.c target/staticlib/libbaruvkesh.a -o example && ./example < sheets/01.sheet */
+ *     cc -I bindings/c bindings/c/example.c target/staticlib/libbaruvkesh.a -o target/example
+ *     target/example < sheets/01.sheet */
 #include <stdio.h>
 
 #include "baruvkesh.h"

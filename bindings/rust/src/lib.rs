@@ -1,18 +1,17 @@
-//! Judges a settings sheet: says whether its entries can be met together, with values that meet them or the first list of entries that
-//! clash. The code that judges is proved; this crate lends it two slices and names what it answers.
+//! Judges a settings sheet: says whether its entries can be met together, with values that meet them or with the first list of entries
+//! that clash by themselves. The code that judges is proved; this crate lends it two slices and names what it answers.
 //!
 //! ```
-//! use baruvkesh::{judge, Answer, ROOM_NEEDED};
+//! use baruvkesh::{judge, Answer, EntryNumber, ROOM_NEEDED};
 //!
 //! // one unknown x, and the entry x < x
 //! let sheet = [0, 18, 1, 1, 1, 0, 0, 0, 0, 0, 0, 0, 3, 0, 0, 0, 0, 0];
 //! let mut room = [0; ROOM_NEEDED];
 //! match judge(&sheet, &mut room) {
-//!     Answer::Holds(_) => println!("holds: {:?} over {}", baruvkesh::n(&room).collect::<Vec<_>>(), baruvkesh::d(&room)),
-//!     Answer::Clashes(_) => println!("clashes: {:?}", baruvkesh::entries(&room)),
+//!     Answer::Holds(values) => println!("holds: {:?} over {}", values.n().collect::<Vec<_>>(), values.d()),
+//!     Answer::Clashes(list) => assert!(list.entries().eq([EntryNumber(0)])),
 //!     Answer::Refused(why) => println!("refused {} at {}", why.number(), why.place()),
 //! }
-//! # assert_eq!(baruvkesh::entries(&room), [0]);
 //! ```
 
 #[cfg(not(all(target_arch = "x86_64", target_os = "linux")))]
@@ -21,16 +20,32 @@ compile_error!("the proved archive is x86-64 Linux code");
 /// Length of an answer room that is enough for every sheet.
 pub const ROOM_NEEDED: usize = 520;
 
-/// What the panel says of a sheet.
+/// The number of a term. It is never taken for an entry's.
+#[derive(Clone, Copy, Debug, PartialEq, Eq, PartialOrd, Ord)]
+pub struct TermNumber(pub u8);
+
+/// The number of an entry. It is never taken for a term's.
+#[derive(Clone, Copy, Debug, PartialEq, Eq, PartialOrd, Ord)]
+pub struct EntryNumber(pub u8);
+
+/// What the panel says of a sheet. The answer record stands in the first bytes of the room.
 #[derive(Clone, Copy, Debug, PartialEq, Eq)]
-pub enum Answer {
-    /// The entries can be met together. The room starts with a record of this length: see [`d`] and [`n`].
-    Holds(usize),
-    /// They can't. The room starts with a record of this length: see [`entries`].
-    Clashes(usize),
+pub enum Answer<'a> {
+    /// Values exist that meet every term and entry: such values.
+    Holds(Values<'a>),
+    /// None exist: the first list of entries that clash by themselves.
+    Clashes(List<'a>),
     /// The sheet is sent back, and the whole room keeps what it held.
     Refused(Refusal),
 }
+
+/// The record of a sheet that holds.
+#[derive(Clone, Copy, Debug, PartialEq, Eq)]
+pub struct Values<'a>(&'a [u8]);
+
+/// The record of a sheet that clashes.
+#[derive(Clone, Copy, Debug, PartialEq, Eq)]
+pub struct List<'a>(&'a [u8]);
 
 /// Why a sheet is sent back. The first that applies is given, in this order.
 #[derive(Clone, Copy, Debug, PartialEq, Eq)]
@@ -42,16 +57,16 @@ pub enum Refusal {
     /// 12: T is 0 or over 64, L over 64, byte 5 not 0, or length not 6 + 6T + 6L.
     Shape,
     /// 13: this term is the lowest with kind over 4, a non-zero unused field, or an argument not below its own number.
-    WrongTerm(u8),
+    WrongTerm(TermNumber),
     /// 14: this entry is the lowest with kind over 3, a non-zero second byte, or a or b not below T.
-    WrongEntry(u8),
+    WrongEntry(EntryNumber),
     /// 15: answer room under [`ROOM_NEEDED`] bytes.
     Room,
 }
 
-impl Answer {
+impl Answer<'_> {
     /// 0 for holds, 1 for clashes, and the refusal's number.
-    pub fn number(self) -> u8 {
+    pub fn number(&self) -> u8 {
         match self {
             Answer::Holds(_) => 0,
             Answer::Clashes(_) => 1,
@@ -60,17 +75,49 @@ impl Answer {
     }
 
     /// The length of the answer record, or the refusal's place.
-    pub fn place(self) -> usize {
+    pub fn place(&self) -> usize {
         match self {
-            Answer::Holds(length) | Answer::Clashes(length) => length,
+            Answer::Holds(values) => values.record().len(),
+            Answer::Clashes(list) => list.record().len(),
             Answer::Refused(why) => why.place().into(),
         }
     }
 }
 
+impl<'a> Values<'a> {
+    /// The answer record.
+    pub fn record(&self) -> &'a [u8] {
+        self.0
+    }
+
+    /// D: the value of a term is n / D.
+    pub fn d(&self) -> u16 {
+        u16::from_be_bytes([self.0[4], self.0[5]])
+    }
+
+    /// n of each term.
+    pub fn n(&self) -> impl Iterator<Item = i64> + 'a {
+        self.0[8..]
+            .chunks_exact(8)
+            .map(|bytes| i64::from_be_bytes(bytes.try_into().unwrap()))
+    }
+}
+
+impl<'a> List<'a> {
+    /// The answer record.
+    pub fn record(&self) -> &'a [u8] {
+        self.0
+    }
+
+    /// The entries of the list, rising.
+    pub fn entries(&self) -> impl Iterator<Item = EntryNumber> + 'a {
+        self.0[8..].iter().map(|&entry| EntryNumber(entry))
+    }
+}
+
 impl Refusal {
     /// 10 to 15.
-    pub fn number(self) -> u8 {
+    pub fn number(&self) -> u8 {
         match self {
             Refusal::Length => 10,
             Refusal::Version => 11,
@@ -81,65 +128,36 @@ impl Refusal {
         }
     }
 
-    /// The term or the entry that is wrong, or 0.
-    pub fn place(self) -> u8 {
+    /// The number of the term or the entry that is wrong, or 0.
+    pub fn place(&self) -> u8 {
         match self {
-            Refusal::WrongTerm(at) | Refusal::WrongEntry(at) => at,
+            Refusal::WrongTerm(term) => term.0,
+            Refusal::WrongEntry(entry) => entry.0,
             _ => 0,
         }
     }
 }
 
 extern "C" {
-    fn baruvkesh_judge(
-        sheet: *const u8,
-        sheet_length: usize,
-        room: *mut u8,
-        room_length: usize,
-    ) -> u32;
+    fn baruvkesh_judge(sheet: *const u8, sheet_len: usize, room: *mut u8, room_len: usize) -> u32;
 }
 
 /// Judges the sheet, and writes the answer record to the first bytes of the room unless the sheet is refused. The bytes past the record
 /// keep what they held. Any bytes and any two lengths are allowed.
-pub fn judge(sheet: &[u8], room: &mut [u8]) -> Answer {
+pub fn judge<'a>(sheet: &[u8], room: &'a mut [u8]) -> Answer<'a> {
     // SAFETY: the function has no precondition but two slices that don't overlap, and these are.
     let answer =
         unsafe { baruvkesh_judge(sheet.as_ptr(), sheet.len(), room.as_mut_ptr(), room.len()) };
-    let place = answer & 0xFFFF;
+    let place = (answer & 0xFFFF) as usize;
     match answer >> 16 {
-        0 => Answer::Holds(place as usize),
-        1 => Answer::Clashes(place as usize),
+        0 => Answer::Holds(Values(&room[..place])),
+        1 => Answer::Clashes(List(&room[..place])),
         10 => Answer::Refused(Refusal::Length),
         11 => Answer::Refused(Refusal::Version),
         12 => Answer::Refused(Refusal::Shape),
-        13 => Answer::Refused(Refusal::WrongTerm(place as u8)),
-        14 => Answer::Refused(Refusal::WrongEntry(place as u8)),
+        13 => Answer::Refused(Refusal::WrongTerm(TermNumber(place as u8))),
+        14 => Answer::Refused(Refusal::WrongEntry(EntryNumber(place as u8))),
         15 => Answer::Refused(Refusal::Room),
         number => unreachable!("the contract has no number {number}"),
     }
-}
-
-/// D, of a room that a sheet which holds was answered in.
-pub fn d(room: &[u8]) -> u16 {
-    pair(room, 4)
-}
-
-/// n of each term, of a room that a sheet which holds was answered in. The value of a term is n / D.
-pub fn n(room: &[u8]) -> impl Iterator<Item = i64> + '_ {
-    body(room)
-        .chunks_exact(8)
-        .map(|bytes| i64::from_be_bytes(bytes.try_into().unwrap()))
-}
-
-/// The first list of entries that clash, of a room that a sheet which clashes was answered in: their numbers, rising.
-pub fn entries(room: &[u8]) -> &[u8] {
-    body(room)
-}
-
-fn body(room: &[u8]) -> &[u8] {
-    &room[8..pair(room, 0).into()]
-}
-
-fn pair(room: &[u8], at: usize) -> u16 {
-    u16::from_be_bytes([room[at], room[at + 1]])
 }

@@ -1,4 +1,4 @@
--- The limits of a sheet, which stand here and in the code's constants of the same names, and nowhere else.
+-- The limits of a sheet, which stand here and in the code's constants of the same names.
 -- Assumes nothing.
 use Prim.Native.Nat.{ℕ, _+_, _*_}
 
