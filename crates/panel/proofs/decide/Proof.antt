@@ -20,24 +20,30 @@ write-requires c κs =
     let told = c .before .before in
     let judged = told .before .before .before in
     let begun = judged .before .before .before .before .before in
-    ((begun .pre .0, begun .pre .1), ((omega arith, omega (arith, begun .pre .1 .terms)), judged .on .ensures .0 .settled (ap numberOf (told .enum-told .given .1)) .closed))
+    let settled = judged .on .ensures .0 .settled (ap numberOf (told .enum-told .given .1)) in
+    ((begun .pre .0, begun .pre .1), ((omega arith, omega (arith, begun .pre .1 .terms)), settled .closed))
 
 write-requires-2 : tie.Need-write-requires-2
 write-requires-2 c κs =
     let told = c .before in
     let judged = told .before .before .before in
     let begun = judged .before .before .before .before .before in
-    ((begun .pre .0, begun .pre .1), (all-clash _ (judged .on .ensures .0 .clashes (ap numberOf (told .enum-told2 .given .1))), omega (arith, begun .pre .1 .entries)))
+    let clash = judged .on .ensures .0 .clashes (ap numberOf (told .enum-told2 .given .1)) in
+    ((begun .pre .0, begun .pre .1), (all-clash _ clash, omega (arith, begun .pre .1 .entries)))
 
 cast-holds : tie.Need-cast-t16
 cast-holds c =
-    let begun = c .before .before .before .before .before .before .before .before .before .before .before .before .before in
+    let told = c .before .before .before .before .before in
+    let judged = told .before .before .before in
+    let begun = judged .before .before .before .before .before in
     omega (arith, begun .pre .1 .terms)
 
 cast-clashes : tie.Need-cast-t20
 cast-clashes c =
     let wrote = c .before .before in
-    let begun = wrote .before .before .before .before .before .before .before .before .before .before in
+    let told = wrote .before .before in
+    let judged = told .before .before .before in
+    let begun = judged .before .before .before .before .before in
     omega (arith, within-short (wrote .write2 .ensures .within), wrote .write2 .ensures .size-is, begun .pre .1 .entries)
 
 returns : tie.Need-returns
@@ -46,7 +52,8 @@ returns c =
     let told = wrote .before .before .before in
     let judged = told .before .before .before in
     let begun = judged .before .before .before .before .before in
-    rw (wrote .write .ensures .0) (inl (says-holds _ _ _ (omega arith) (begun .pre .1) _ (judged .on .ensures .0 .settled (ap numberOf (told .enum-told .given .1))) (wrote .write .ensures .1)))
+    let settled = judged .on .ensures .0 .settled (ap numberOf (told .enum-told .given .1)) in
+    rw (wrote .write .ensures .0) (inl (says-holds _ _ _ (omega arith) (begun .pre .1) _ settled (wrote .write .ensures .1)))
 
 returns-2 : tie.Need-returns-2
 returns-2 c =
