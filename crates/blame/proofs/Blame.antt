@@ -39,11 +39,14 @@ module _ (s : Sheet) (wf : WellFormed s) (A : Set) (first : FirstClash s A) (old
   list-is : (i : ℕ) → i < k → getD list i 0 ≡ getD (drop 8 mid) i 0
   list-is i h = list-at i h ∙ head .kept .after (8 + i) (omega arith) ∙ sym (getD-drop 8 mid i 0)
 
+  within : (i : ℕ) → i < length list → i < k
+  within i h = omega (arith, list-length)
+
   own : Listed (countEntries s) A list (length list)
   own = record {
-    entry = λ i h. omega (arith, listed .entry i (omega (arith, list-length)), list-is i (omega (arith, list-length)));
-    one = λ i h. rw (list-is i (omega (arith, list-length))) (listed .one i (omega (arith, list-length)));
-    rising = λ i j h l. omega (arith, list-length, listed .rising i j h (omega (arith, list-length)), list-is i (omega (arith, list-length)), list-is j (omega (arith, list-length)));
+    entry = λ i h. omega (arith, listed .entry i (within i h), list-is i (within i h));
+    one = λ i h. rw (list-is i (within i h)) (listed .one i (within i h));
+    rising = λ i j h l. omega (arith, listed .rising i j h (within j l), list-is i (within i (omega arith)), list-is j (within j l));
     all = λ x l e. let (i, h, q) = listed .all x l e in (i, omega (arith, list-length), list-is i h ∙ q);
   }
 
@@ -59,6 +62,6 @@ module _ (s : Sheet) (wf : WellFormed s) (A : Set) (first : FirstClash s A) (old
     size-is = omega (arith, list-length);
     bytes = ap (λ (x : ℕ). take (8 + x) new) (sym list-length) ∙ clashes-read new B list (omega (arith, list-length))
         (head .size-is ∙ omega (arith, list-length)) (head .one-is) (head .verdict-is) (head .count-is ∙ sym list-length) (head .zero-is)
-        (λ i h. sym (list-at i (omega (arith, list-length))));
+        (λ i h. sym (list-at i (within i h)));
     kept = λ i l. head .kept .after i (omega arith) ∙ kept .after i l;
   }

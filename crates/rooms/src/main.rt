@@ -2,18 +2,18 @@
 // It is thin over the panel, and prints the number and the place of each answer on a line.
 use libc::STDIN_FILENO;
 use libc::STDOUT_FILENO;
+use panel::Answer;
 
 fn main() {
     let mut bytes = [0u8; sheet::LONGEST + 1];
     let lent = io::read_full(STDIN_FILENO, &mut bytes);
     let mut short = [0u8; sheet::ROOM_NEEDED - 1];
-    print_reply(&bytes[..lent], &mut short);
+    print_answer(panel::judge(&bytes[..lent], &mut short));
     let mut enough = [0u8; sheet::ROOM_NEEDED];
-    print_reply(&bytes[..lent], &mut enough);
+    print_answer(panel::judge(&bytes[..lent], &mut enough));
 }
 
-fn print_reply(sheet: &[u8], room: &mut [u8]) {
-    let answer = panel::judge(sheet, room);
+fn print_answer(answer: Answer) {
     io::print_decimal(STDOUT_FILENO, answer.number() as u64);
     io::write_all(STDOUT_FILENO, b" ");
     io::print_decimal(STDOUT_FILENO, answer.place() as u64);

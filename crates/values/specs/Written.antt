@@ -5,7 +5,7 @@ use Prim.Native.Nat.{ℕ, _+_, _*_, _≤_}
 use mathlib.Core.Path.{_≡_}
 use mathlib.Core.List.{List}
 use lib.IntN.{ℤ}
-use lib.ListN.{length, getD, take}
+use lib.ListN.{getD, take}
 use Rattle.order.specs.First.{Set}
 use Rattle.sheet.specs.Decode.{each}
 use Rattle.sheet.specs.Sheet.{Sheet, countTerms}
