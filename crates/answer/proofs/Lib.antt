@@ -1,3 +1,4 @@
 pub mod Tells
 pub mod Read
 pub mod Heads
+pub mod Fill

@@ -11,8 +11,8 @@ ghost use Rattle.order.specs.First.{every, marked, Listed};
 ghost use Rattle.sheet.specs.Decode.{Sized, sheetOf};
 ghost use Rattle.sheet.specs.Sheet.{WellFormed, countEntries};
 ghost use Rattle.meaning.specs.Meaning.{Clashes, FirstClash};
+ghost use Rattle.meaning.specs.Decides.{Decides};
 ghost use Rattle.values.specs.Settled.{points};
-ghost use Rattle.ties.specs.Ties.{Decides};
 ghost use Rattle.blame.specs.Blamed.{Blamed};
 use verdict::Verdict;
 

@@ -1,4 +1,5 @@
 pub mod Meaning
+pub mod Decides
 pub mod Empty
 pub mod Check
 pub mod Clash

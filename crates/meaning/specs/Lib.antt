@@ -1,3 +1,4 @@
 pub mod Meaning
+pub mod Decides
 pub mod Lines
 pub mod Judged

@@ -1,9 +1,10 @@
 -- What the parts promise, joined: of all entries, and of the whole room.
 -- Assumes nothing.
-use Prim.Native.Nat.{ℕ, _≤_}
+use Prim.Native.Nat.{ℕ, _+_, _*_, _≤_}
 use mathlib.Core.Path.{_≡_, refl, sym, ap, _∙_}
 use mathlib.Core.Bool.{true}
 use mathlib.Core.List.{List, _++_}
+use lib.IntN.{ℤ}
 use lib.ListN.{length, getD, take, drop, replicate, length-drop, take-append-drop}
 use lib.Seq.{getD-drop, ext-getD}
 use native.Mathlib.Omega.{arith}
@@ -17,9 +18,12 @@ use Rattle.meaning.proofs.Meaning.{meet-fewer, clashes-upward}
 use Rattle.refusal.specs.Table.{fine, refused, refusal}
 use Rattle.refusal.proofs.Replies.{fine-refused}
 use Rattle.answer.specs.Record.{holdsRecord, clashesRecord}
+use Rattle.answer.specs.Levels.{Recorded}
 use Rattle.answer.proofs.Tells.{holds-length, clashes-length}
+use Rattle.meets.specs.Met.{value, Met}
 use Rattle.values.specs.Settled.{Settled}
 use Rattle.values.specs.Written.{recordLength, listed, Written}
+use Rattle.values.proofs.Limits.{listed-length, listed-at}
 use Rattle.blame.specs.Blamed.{Blamed}
 use Rattle.blame.proofs.Blame.{all-marked}
 use Rattle.panel.specs.Answered.{over, SaysHolds, SaysClashes, Decided, Answered}
@@ -48,6 +52,29 @@ module _ (s : Sheet) (old new : List ℕ) (same : length new ≡ length old) whe
         number-is = refl;
         place-is = e;
         room-is = recorded _ old new same (recordLength s) e (w .bytes) (w .kept);
+      }
+
+  -- with values that were found to meet it
+  pub says-met : {v : List ℕ} {D size t : ℕ} → WellFormed s → t ≡ countTerms s → (1 ≤ D) × (D ≤ 65535) → Met s (marked (replicate maxEntries true)) D v →
+      (size ≡ 8 + 8 * t) × Recorded old new v D t → SaysHolds s old new 0 size
+  says-met {v} {D} {size} wf t-is (l, m) met (size-is, r) =
+      let n : ℕ → ℤ = value s v in
+      let R : Recorded old new v D (countTerms s) = rw t-is at r in
+      let e : recordLength s ≡ length (holdsRecord D (listed s n)) = omega (arith, holds-length D (listed s n), length-each (countTerms s) n) in
+      let f : size ≡ recordLength s = rw t-is at size-is in
+      record {
+        D = D;
+        n = n;
+        meet = meet-fewer s every _ D n (λ x l h. all-marked wf x l) (met .meet);
+        within = record {
+          least = l;
+          most = m;
+          above = λ i h. rw (listed-at s n i h) (met .above i (omega (arith, listed-length s n)));
+          below = λ i h. rw (listed-at s n i h) (met .below i (omega (arith, listed-length s n)));
+        };
+        number-is = refl;
+        place-is = f ∙ e;
+        room-is = recorded _ old new same (recordLength s) e (R .bytes) (R .kept);
       }
 
   pub says-clashes : (size : ℕ) → Blamed s old new size → SaysClashes s old new 1 size

@@ -51,8 +51,21 @@ pub fn judge(sheet: &[u8], room: &mut [u8]) -> Answer
     }
 }
 
-// The answer to a sheet that isn't sent back.
+// The answer to a sheet that isn't sent back: with values that were guessed and found to meet it, or by the table.
 fn decide(sheet: &[u8], room: &mut [u8]) -> Answer
+    requires { ⌜ Sized (now sheet) × WellFormed (sheetOf (now sheet)) × (roomNeeded ≤ length (now room)) ⌝ }
+    ensures { λ r. ⌜ Decided (sheetOf (now (sheet .entry))) (now (room .entry)) (now (room .exit)) (numberOf r) (placeOf r) ⌝ }
+{
+    let all = [true; sheet::MAX_ENTRIES];
+    let mut v = [0u64; guess::PLACES];
+    if !guess::values(sheet, &all, &mut v) {
+        return search(sheet, room);
+    }
+    Answer::Holds(answer::holds(room, guess::D, &v, sheet::count_terms(sheet)) as u16)
+}
+
+// The answer by the table, which decides.
+fn search(sheet: &[u8], room: &mut [u8]) -> Answer
     requires { ⌜ Sized (now sheet) × WellFormed (sheetOf (now sheet)) × (roomNeeded ≤ length (now room)) ⌝ }
     ensures { λ r. ⌜ Decided (sheetOf (now (sheet .entry))) (now (room .entry)) (now (room .exit)) (numberOf r) (placeOf r) ⌝ }
 {

@@ -1,8 +1,8 @@
 -- What stands where in a decoded sheet.
 -- Assumes nothing.
 use Prim.Native.Nat.{ℕ, zero, suc, _<_}
-use mathlib.Core.Path.{_≡_, refl, ap}
-use mathlib.Core.List.{List}
+use mathlib.Core.Path.{_≡_, refl, ap, ap₂}
+use mathlib.Core.List.{List, _∷_}
 use lib.ListN.{length, getD}
 use native.Mathlib.Omega.{arith}
 use Rattle.sheet.specs.Sheet.{countTerms, countEntries, termAt, entryAt}
@@ -18,6 +18,11 @@ unfolding each
 getD-each zero f d i h = absurd (omega arith)
 getD-each (suc n) f d zero h = refl
 getD-each (suc n) f d (suc i) h = getD-each n (λ k. f (suc k)) d i (omega arith)
+
+pub each-same : {A : Type 0} (n : ℕ) {f g : ℕ → A} → ((i : ℕ) → i < n → f i ≡ g i) → each n f ≡ each n g
+unfolding each
+each-same zero h = refl
+each-same (suc n) h = ap₂ _∷_ (h 0 (omega arith)) (each-same n (λ i l. h (suc i) (omega arith)))
 
 pub terms-stated : (b : List ℕ) → countTerms (sheetOf b) ≡ statedTerms b
 unfolding sheetOf

@@ -15,8 +15,9 @@ use Rattle.sheet.specs.declared.Relation.the-variants.{Equal, Unequal, AtMost, 
 use Rattle.sheet.specs.Sheet.{unequal, Sheet, countEntries, entryAt}
 use Rattle.sheet.specs.Says.{biasedSays, relationSays, entrySays}
 use Rattle.sheet.proofs.Relation.{the-type}
-use Rattle.ties.specs.Ties.{Decides, Broken, Checked}
-use Rattle.ties.proofs.Tests.{refuted, told}
+use Rattle.meaning.specs.Decides.{Decides}
+use Rattle.meaning.proofs.Decides.{refuted, told}
+use Rattle.ties.specs.Ties.{Broken, Checked}
 
 -- a ≠ entry
 pub unequal-told : {d : ℕ → ℕ → ℕ} {r : Bool} (e : Code-Entry) → e .relation ≡ Unequal

@@ -14,8 +14,9 @@ use Rattle.sheet.specs.Sheet.{Term, apply, apply2, ArgumentsBelow, of-apply, of
 use Rattle.sheet.specs.Says.{termSays}
 use Rattle.sheet.proofs.Term.{the-type}
 use Rattle.meaning.specs.Meaning.{one, two}
-use Rattle.ties.specs.Ties.{Decides, Joined, isApplication}
-use Rattle.ties.proofs.Tests.{refuted, told}
+use Rattle.meaning.specs.Decides.{Decides}
+use Rattle.meaning.proofs.Decides.{refuted, told}
+use Rattle.ties.specs.Ties.{Joined, isApplication}
 
 pub argument : {n f a : ℕ} → ArgumentsBelow n (apply f a) → a < n
 argument (of-apply p) = p

@@ -1,8 +1,7 @@
--- What both answers of a test show, from what they show of its parts.
+-- What both answers of the look-up of a tie show.
 -- Assumes nothing.
 use Prim.Native.Nat.{ℕ, _+_, _*_, _-_, _<_}
-use mathlib.Core.Path.{_≡_, sym}
-use mathlib.Core.Bool.{Bool, false, true≢false}
+use mathlib.Core.Path.{_≡_}
 use lib.Dec.{eqb}
 use lib.IntN.{subℕ}
 use native.Mathlib.Omega.{arith}
@@ -12,18 +11,7 @@ use Rattle.whole.proofs.Parts.{sub-parts}
 use Rattle.gap.specs.Code.{base}
 use Rattle.closure.specs.Closed.{Closed, TiedAt, tieOf}
 use Rattle.closure.proofs.Ties.{tie-at}
-use Rattle.ties.specs.Ties.{Decides}
-
-pub refuted : {A : Type 0} → (A → ⊥) → Decides A false
-refuted n = record { yes = λ e. absurd (true≢false (sym e)); no = λ e. n }
-
--- a test of what is the same
-pub told : {A B : Type 0} {r : Bool} → (A → B) → (B → A) → Decides A r → Decides B r
-told to from D = record { yes = λ e. to (D .yes e); no = λ e b. D .no e (from b) }
-
--- one part is there, and the other is tested
-pub rest : {A B : Type 0} {r : Bool} → A → Decides B r → Decides (A × B) r
-rest a = told (λ b. (a, b)) (λ p. p .1)
+use Rattle.meaning.specs.Decides.{Decides}
 
 -- the table's gap is compared with c's
 pub tied-told : {n R : ℕ} {d : ℕ → ℕ → ℕ} {a b : ℕ} (c t w : ℕ) → Closed n R d → (a < n) × (b < n) → c < 65536

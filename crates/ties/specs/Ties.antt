@@ -10,11 +10,6 @@ use Rattle.sheet.specs.Sheet.{Term, unknown, number, shift, apply, apply2, uneq
 use Rattle.meaning.specs.Meaning.{SameInput}
 use Rattle.values.specs.Settled.{Apart}
 
--- a test's answer
-pub record Decides (A : Type 0) (answer : Bool) : Type 0 where
-  pub yes : answer ≡ true → A
-  pub no : answer ≡ false → A → ⊥
-
 -- a term of kind 3 or 4: no other has an input
 abbrev pub isApplication : Term → Bool
 isApplication unknown = false

@@ -3,7 +3,7 @@
 // It promises that these meet the sheet on every set of entries for which the table is settled (specs/Settled.antt, Written.antt).
 ghost use mathlib.Core.Path.{_≡_};
 ghost use Prim.Native.Nat.{ℕ, _*_, _^_, _≤_, _<_, min};
-ghost use lib.ListN.{length};
+ghost use lib.ListN.{length, getD};
 ghost use Rattle.gap.specs.Code.{half, none};
 ghost use Rattle.closure.specs.Closed.{Closed};
 ghost use Rattle.closure.specs.Table.{reach};
@@ -25,16 +25,21 @@ pub fn write(sheet: &[u8], d: &[u32], room: &mut [u8]) -> usize
 {
     let terms = sheet::count_terms(sheet);
     let n = terms + 1;
-    let size = 8 + 8 * terms;
-    answer::head(room, size, 0, (n * n) as u64);
-    let zero = level(d, terms, n);
+    let mut v = [0u64; table::STRIDE];
+    levels(d, n, &mut v);
+    answer::holds(room, (n * n) as u64, &v, terms)
+}
+
+// The levels of all n points.
+fn levels(d: &[u32], n: usize, v: &mut [u64])
+    requires { ⌜ (length (now d) ≡ cells) × (n ≤ stride) × (n ≤ length (now v)) × Closed n (reach n) (cell (now d)) ⌝ }
+    ensures { λ _. ⌜ ((i : ℕ) → i < n → getD (now (v .exit)) i 0 ≡ levelOf n (reach n) (cell (now (d .entry))) i) ⌝ }
+{
     let mut i = 0;
-    while i < terms {
-        let v = std::num::wrapping_sub_u64(level(d, i, n), zero);
-        big::write(room, 8 + 8 * i, 8, v);
+    while i < n {
+        v[i] = level(d, i, n);
         i += 1;
     }
-    size
 }
 
 // The level of point i of n, in parts of n * n. The lowest tied point sets untied points apart that the sums would leave equal.

@@ -15,12 +15,13 @@ use Rattle.closure.specs.Table.{reach}
 use Rattle.table.specs.Cells.{cell}
 use Rattle.sheet.specs.Sheet.{Term, Sheet, countTerms, termAt, WellFormed}
 use Rattle.meaning.specs.Meaning.{one, two}
+use Rattle.meaning.specs.Decides.{Decides}
 use Rattle.meaning.proofs.Meaning.{same-input-below}
 use Rattle.values.specs.Settled.{points, Saturated}
 use Rattle.values.proofs.Held.{tied-met}
 use Rattle.bounds.specs.Step.{Met, Stepped}
 use Rattle.bounds.specs.True.{TieTrue}
-use Rattle.ties.specs.Ties.{Decides, isApplication, Joined}
+use Rattle.ties.specs.Ties.{isApplication, Joined}
 use Rattle.ties.proofs.Inputs.{no-input}
 use Rattle.verdict.specs.declared.Passed.the-variants.{Clash, New, Still}
 use Rattle.verdict.specs.Passing.{FunctionsTrue, PairTied, RowTied, AllTied, Passing, clash, tied, still, putOf}

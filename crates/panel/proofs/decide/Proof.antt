@@ -1,67 +1,26 @@
--- `panel::decide` meets its contract: the verdict on all entries, with the values or the list.
+-- `panel::decide` meets its contract: with values that meet the sheet, or as the table says.
 -- Assumes nothing.
-use mathlib.Core.Path.{ap, refl}
-use mathlib.Core.Logic.{inl, inr}
+use mathlib.Core.Path.{_∙_}
+use mathlib.Core.Logic.{inl}
 use native.Mathlib.Omega.{arith}
 use borrow.Author.Needs.{needs}
-use Rattle.verdict.specs.Judged.{numberOf}
-use Rattle.panel.proofs.Listing.{within-short}
-use Rattle.panel.proofs.Join.{says-holds, all-clash, says-clashes}
+use borrow.Author.Tests.{not-false}
+use Rattle.panel.proofs.Join.{says-met}
 use Rattle.panel.proofs.decide.Statement.{statement}
 use Rattle.panel.proofs.decide.Tie as tie
 
-on-requires : tie.Need-on-requires
-on-requires c κs =
-    let begun = c .before .before .before .before in
-    ((begun .pre .0, begun .pre .1), (begun .pre .1 .entries, refl))
-
-write-requires : tie.Need-write-requires
-write-requires c κs =
-    let told = c .before .before in
-    let judged = told .before .before .before in
-    let begun = judged .before .before .before .before .before in
-    let settled = judged .on .ensures .0 .settled (ap numberOf (told .enum-told .given .1)) in
-    ((begun .pre .0, begun .pre .1), ((omega arith, omega (arith, begun .pre .1 .terms)), settled .closed))
-
-write-requires-2 : tie.Need-write-requires-2
-write-requires-2 c κs =
-    let told = c .before in
-    let judged = told .before .before .before in
-    let begun = judged .before .before .before .before .before in
-    let clash = judged .on .ensures .0 .clashes (ap numberOf (told .enum-told2 .given .1)) in
-    ((begun .pre .0, begun .pre .1), (all-clash _ clash, omega (arith, begun .pre .1 .entries)))
-
-cast-holds : tie.Need-cast-t16
-cast-holds c =
-    let told = c .before .before .before .before .before in
-    let judged = told .before .before .before in
-    let begun = judged .before .before .before .before .before in
-    omega (arith, begun .pre .1 .terms)
-
-cast-clashes : tie.Need-cast-t20
-cast-clashes c =
-    let wrote = c .before .before in
-    let told = wrote .before .before in
-    let judged = told .before .before .before in
-    let begun = judged .before .before .before .before .before in
-    omega (arith, within-short (wrote .write2 .ensures .within), wrote .write2 .ensures .size-is, begun .pre .1 .entries)
-
-returns : tie.Need-returns
-returns c =
-    let wrote = c .before .before in
-    let told = wrote .before .before .before in
-    let judged = told .before .before .before in
-    let begun = judged .before .before .before .before .before in
-    let settled = judged .on .ensures .0 .settled (ap numberOf (told .enum-told .given .1)) in
-    rw (wrote .write .ensures .0) (inl (says-holds _ _ _ (omega arith) (begun .pre .1) _ settled (wrote .write .ensures .1)))
-
 returns-2 : tie.Need-returns-2
 returns-2 c =
-    let wrote = c .before .before in
-    inr (says-clashes _ _ _ (omega arith) _ (wrote .write2 .ensures))
+    let made = c .before .before in
+    let counted = made .before in
+    let start = c .before .before .before .before .before .before .before .before .before .before .before .before .before in
+    let test = counted .before .before .before in
+    inl
+    (says-met _ _ _ (omega arith) (start .pre .1) (counted .count-terms .ensures .0) (omega arith, omega arith) (test .before .before .values .ensures (not-false _ (test .if1 .left)))
+    (made .holds .ensures .0, made .holds .ensures .1))
 
 pub decide-spec : {M : Type 1} → statement M
 decide-spec =
     tie.close
-    (tie.spec (λ c. search needs) (λ c. search needs) on-requires (λ c. search needs) (λ c. search needs) write-requires cast-holds
-    (λ c. search needs) write-requires-2 cast-clashes (λ c. search needs) returns (λ c. search needs) returns-2)
+    (tie.spec (λ c. search needs) (λ c. search needs) (λ c κs. search needs) (λ c κs. search needs) (λ c. search needs) (λ c. search needs)
+    (λ c. search needs) (λ c κs. search needs) (λ c κs. search needs) (λ c. search needs) (λ c. search needs) returns-2)

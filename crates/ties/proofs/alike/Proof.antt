@@ -1,7 +1,7 @@
 -- `ties::alike` meets its contract: first the symbols, then the arguments.
 -- Assumes nothing.
 use borrow.Author.Needs.{needs}
-use Rattle.ties.proofs.Tests.{refuted, rest}
+use Rattle.meaning.proofs.Decides.{refuted, rest}
 use Rattle.ties.proofs.alike.Statement.{statement}
 use Rattle.ties.proofs.alike.Tie as tie
 

@@ -6,7 +6,7 @@ use native.Mathlib.Omega.{arith}
 use borrow.Author.Needs.{needs}
 use borrow.Author.Tests.{not-true, not-false}
 use Rattle.sheet.proofs.Below.{entry-below}
-use Rattle.ties.proofs.Tests.{refuted, rest}
+use Rattle.meaning.proofs.Decides.{refuted, rest}
 use Rattle.ties.proofs.broken_at.Statement.{statement}
 use Rattle.ties.proofs.broken_at.Tie as tie
 

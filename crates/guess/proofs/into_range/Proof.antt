@@ -1,0 +1,39 @@
+-- `guess::into_range` meets its contract: after i turns, the first i levels are in the range.
+-- Assumes nothing.
+use Prim.Native.Nat.{ℕ, _+_, _-_, _%_, _^_, _≤_, _<_}
+use mathlib.Core.Path.{_≡_, refl, _∙_}
+use mathlib.Core.List.{List}
+use lib.ListN.{length, getD, set, length-set}
+use lib.Seq.{getD-set-same, getD-set-other}
+use native.Mathlib.Omega.{arith}
+use borrow.Author.Count.{below-more}
+use borrow.Author.Needs.{needs}
+use Rattle.guess.proofs.into_range.Statement.{statement}
+use Rattle.guess.proofs.into_range.Tie as tie
+
+abbrev Inv-loop : tie.InvT-loop
+Inv-loop v₀ i₀ v i = (i ≤ 128) × (length v ≡ length v₀) × ((k : ℕ) → k < i → getD v k 0 < 2 ^ 44)
+
+abbrev μ-loop : tie.MeasureT-loop
+μ-loop v₀ i₀ v i = 128 - i
+
+more : (v : List ℕ) (i x : ℕ) → i < length v → x < 2 ^ 44 → ((k : ℕ) → k < i → getD v k 0 < 2 ^ 44) → (k : ℕ) → k < i + 1 → getD (set v i x) k 0 < 2 ^ 44
+more v i x l b h = below-more _ i (λ k p. omega (arith, getD-set-other v i k x 0 (omega arith), h k p)) (omega (arith, getD-set-same v i x 0 l))
+
+loop-holds : tie.Need-loop-holds Inv-loop μ-loop
+loop-holds c = (omega arith, refl, λ k l. absurd (omega arith))
+
+loop-again : tie.Need-loop-again Inv-loop μ-loop
+loop-again c =
+    let head = c .before .before in
+    let x = getD (head .loop .v) (head .loop .i) 0 % 2 ^ 44 in
+    (omega arith, length-set (head .loop .v) (head .loop .i) x ∙ head .loop .inv .1, more (head .loop .v) (head .loop .i) x (omega arith) (omega arith) (head .loop .inv .2))
+
+returns : tie.Need-returns Inv-loop μ-loop
+returns c = λ i l. c .before .loop .inv .2 i (omega arith)
+
+pub into-range-spec : {M : Type 1} → statement M
+into-range-spec =
+    tie.close
+    (tie.spec Inv-loop μ-loop loop-holds (λ c. search needs) (λ c. search needs) (λ c. search needs) (λ c. search needs) (λ c. search needs) (λ c. search needs) loop-again
+    (λ c. search needs) returns)

@@ -1,0 +1,40 @@
+-- The last arms of the matches on a term: the kinds that have no rule of their own, no input, and no second argument.
+-- Assumes nothing.
+use Prim.Native.Nat.{ℕ}
+use mathlib.Core.Path.{_≡_, refl}
+use mathlib.Core.Bool.{true}
+use mathlib.Core.List.{List, [], _∷_}
+use lib.IntN.{ℤ}
+use denote.Enum.Declared.{tagOf}
+use types.Run.{OneOf, miss}
+use Rattle.sheet.specs.declared.Term.{Term as Code-Term}
+use Rattle.sheet.specs.declared.Term.the-variants.{Unknown, Number, Shift, Apply, Apply2}
+use Rattle.sheet.specs.Says.{termSays}
+use Rattle.sheet.proofs.Term.{the-type}
+use Rattle.meaning.specs.Meaning.{Defined}
+use Rattle.meaning.specs.Decides.{Decides}
+use Rattle.meets.specs.Parts.{firstKey, secondKey, SymbolFits}
+use Rattle.meets.proofs.Tests.{shown}
+
+pub ruleless : (D : ℕ) (n : ℕ → ℤ) (own : ℤ) (x : Code-Term) → OneOf (0 ∷ 3 ∷ 4 ∷ []) (tagOf the-type x)
+    → Decides (Defined D n own (termSays x)) true
+ruleless D n own Unknown h = shown tt
+ruleless D n own (Number c) h = absurd (miss (0 ∷ 3 ∷ 4 ∷ []) 1 tt h)
+ruleless D n own (Shift a c) h = absurd (miss (0 ∷ 3 ∷ 4 ∷ []) 2 tt h)
+ruleless D n own (Apply f a) h = shown tt
+ruleless D n own (Apply2 f a b) h = shown tt
+
+pub no-input : (v : List ℕ) (t : ℕ) (x : Code-Term) → OneOf (0 ∷ 1 ∷ 2 ∷ []) (tagOf the-type x)
+    → (0 ≡ firstKey v t (termSays x)) × SymbolFits (termSays x)
+no-input v t Unknown h = (refl, tt)
+no-input v t (Number c) h = (refl, tt)
+no-input v t (Shift a c) h = (refl, tt)
+no-input v t (Apply f a) h = absurd (miss (0 ∷ 1 ∷ 2 ∷ []) 3 tt h)
+no-input v t (Apply2 f a b) h = absurd (miss (0 ∷ 1 ∷ 2 ∷ []) 4 tt h)
+
+pub no-second : (v : List ℕ) (t : ℕ) (x : Code-Term) → OneOf (0 ∷ 1 ∷ 2 ∷ 3 ∷ []) (tagOf the-type x) → 0 ≡ secondKey v t (termSays x)
+no-second v t Unknown h = refl
+no-second v t (Number c) h = refl
+no-second v t (Shift a c) h = refl
+no-second v t (Apply f a) h = refl
+no-second v t (Apply2 f a b) h = absurd (miss (0 ∷ 1 ∷ 2 ∷ 3 ∷ []) 4 tt h)

@@ -1,0 +1,57 @@
+-- Values given as levels, compared as the meaning compares them: on both sides of a test stand natural numbers.
+-- Assumes nothing.
+use Prim.Native.Nat.{ℕ, _+_, _*_, _^_, _≤_, _<_}
+use mathlib.Core.Path.{_≡_, sym, ap, _∙_}
+use mathlib.Core.Bool.{Bool}
+use mathlib.Core.List.{List}
+use lib.IntN.{ℤ, pos, subℕ, _+ℤ_, _*ℤ_, +ℤ-idl}
+use lib.ListN.{getD}
+use native.Mathlib.Omega.{arith}
+use Rattle.whole.specs.Whole.{plus, minus, _≤ℤ_, _<ℤ_}
+use Rattle.whole.proofs.Parts.{sub-parts, parts-inj, scaled}
+use Rattle.meaning.specs.Decides.{Decides}
+use Rattle.meaning.proofs.Decides.{told}
+use Rattle.meets.specs.Parts.{Ready}
+
+-- two values are equal where their levels are
+pub level-same : (x y z : ℕ) → subℕ x z ≡ subℕ y z → x ≡ y
+level-same x y z e = omega (arith, sub-parts x z, sub-parts y z, ap plus e, ap minus e)
+
+-- a term's level, to which what a test adds fits
+pub level-low : {v : List ℕ} {t : ℕ} (a : ℕ) → Ready v t → a < t → getD v a 0 < 2 ^ 63
+level-low a R l = omega (arith, R .near .above a l)
+
+-- x, y and z are the levels of a, of b and of zero: the values n(a) and n(b) + cD, and the two numbers that are compared for them
+module _ (x y z c D : ℕ) where
+  -- n(b) + cD
+  abbrev other : ℤ
+  other = subℕ y z +ℤ subℕ c 32768 *ℤ pos D
+
+  crosswise : plus (subℕ x z) + minus other + (y + c * D) ≡ plus other + minus (subℕ x z) + (x + 32768 * D)
+  crosswise = omega (arith, sub-parts x z, sub-parts y z, scaled c 32768 D (subℕ y z))
+
+  equal-to : x + 32768 * D ≡ y + c * D → subℕ x z ≡ other
+  equal-to e = parts-inj _ _ (omega (arith, crosswise))
+
+  equal-from : subℕ x z ≡ other → x + 32768 * D ≡ y + c * D
+  equal-from e = omega (arith, crosswise, ap plus e, ap minus e)
+
+  module _ {r : Bool} where
+    pub value-equal : Decides (x + 32768 * D ≡ y + c * D) r → Decides (subℕ x z ≡ other) r
+    value-equal = told equal-to equal-from
+
+    pub value-unequal : Decides (x + 32768 * D ≡ y + c * D → ⊥) r → Decides (subℕ x z ≡ other → ⊥) r
+    value-unequal = told (λ n e. n (equal-from e)) (λ n e. n (equal-to e))
+
+    pub value-at-most : Decides (x + 32768 * D ≤ y + c * D) r → Decides (subℕ x z ≤ℤ other) r
+    value-at-most = told (λ l. omega (arith, crosswise)) (λ l. omega (arith, crosswise))
+
+    pub value-less : Decides (x + 32768 * D < y + c * D) r → Decides (subℕ x z <ℤ other) r
+    value-less = told (λ l. omega (arith, crosswise)) (λ l. omega (arith, crosswise))
+
+-- zero's own value adds nothing
+pub value-number : (x z c D : ℕ) {r : Bool} → Decides (x + 32768 * D ≡ z + c * D) r → Decides (subℕ x z ≡ subℕ c 32768 *ℤ pos D) r
+value-number x z c D d =
+    let e : subℕ z z ≡ pos 0 = parts-inj _ _ (omega (arith, sub-parts z z)) in
+    let f : subℕ z z +ℤ subℕ c 32768 *ℤ pos D ≡ subℕ c 32768 *ℤ pos D = rw e (+ℤ-idl _) in
+    told (λ p. p ∙ f) (λ p. p ∙ sym f) (value-equal x z z c D d)
