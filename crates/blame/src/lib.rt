@@ -1,5 +1,5 @@
 // The first clashing list of a clashing sheet: from the highest entry down, one is left out where the rest still clashes.
-// It rests on order's theorem that this ends in the first set, and on the verdict, asked from scratch for each entry.
+// It rests on order's theorem that this ends in the first set, and on values that are guessed or else the verdict, from scratch for each entry.
 // It promises the record of that list (specs/Blamed.antt).
 ghost use mathlib.Core.Path.{_≡_};
 ghost use mathlib.Core.Bool.{true};
@@ -47,13 +47,17 @@ fn leave_out(sheet: &[u8], marks: &mut [bool])
     }
 }
 
-// Whether the marked entries clash.
+// Whether the marked entries clash. Values that meet them are quicker to find than the table is made.
 fn clashes(sheet: &[u8], marks: &[bool], d: &mut [u32]) -> bool
     requires { ⌜ Sized (now sheet) × WellFormed (sheetOf (now sheet)) ⌝ }
     requires { ⌜ (countEntries (sheetOf (now sheet)) ≤ length (now marks)) × (length (now d) ≡ cells) ⌝ }
     ensures decides { λ r. ⌜ Decides (Clashes (sheetOf (now (sheet .entry))) (marked (now (marks .entry)))) r ⌝ }
     ensures kept { λ _. ⌜ CellsKept (points (sheetOf (now (sheet .entry)))) (now (d .entry)) (now (d .exit)) ⌝ }
 {
+    let mut v = [0u64; guess::PLACES];
+    if guess::values(sheet, marks, &mut v) {
+        return false;
+    }
     match verdict::on(sheet, marks, d) {
         Verdict::Holds => false,
         Verdict::Clashes => true,

@@ -36,6 +36,9 @@ const SHELVES: usize = 256;
 // The search gives up after so many sweeps.
 const SWEEPS: usize = 400;
 
+// Most levels settle early. With so many sweeps left the bounds are put in order, and from then on circles are looked for.
+const EARLY: usize = 396;
+
 // 32,768 in parts of D: the bias of a bound's c.
 const BIAS: u64 = 32768 * D;
 
@@ -61,32 +64,33 @@ pub fn values(sheet: &[u8], set: &[bool], v: &mut [u64]) -> bool
     requires { ⌜ (countEntries (sheetOf (now sheet)) ≤ length (now set)) × (length (now v) ≡ 128) ⌝ }
     ensures { λ r. ⌜ (r ≡ true → Met (sheetOf (now (sheet .entry))) (marked (now (set .entry))) 65535 (now (v .exit))) ⌝ }
 {
-    start(v);
-    if !search(sheet, set, v) {
+    let n = sheet::count_terms(sheet) + 1;
+    start(v, n);
+    if !search(sheet, set, v, n) {
         return false;
     }
-    into_range(v);
+    into_range(v, n);
     meets::check(sheet, set, D, v)
 }
 
 // Notes the bounds, and lowers the levels by them.
-fn search(sheet: &[u8], set: &[bool], v: &mut [u64]) -> bool
+fn search(sheet: &[u8], set: &[bool], v: &mut [u64], n: usize) -> bool
     requires { ⌜ Sized (now sheet) × WellFormed (sheetOf (now sheet)) ⌝ }
-    requires { ⌜ (countEntries (sheetOf (now sheet)) ≤ length (now set)) × (length (now v) ≡ 128) ⌝ }
+    requires { ⌜ (countEntries (sheetOf (now sheet)) ≤ length (now set)) × (length (now v) ≡ 128) × (n ≤ 128) ⌝ }
 {
     let mut bounds = [0u64; BOUNDS];
     let terms = note_terms(sheet, &mut bounds);
     let count = note_entries(sheet, set, &mut bounds, terms);
-    settle(sheet, v, &mut bounds, count)
+    settle(sheet, v, n, &mut bounds, count)
 }
 
 // Levels that ran off come back into the range that meets asks for.
-fn into_range(v: &mut [u64])
-    requires { ⌜ length (now v) ≡ 128 ⌝ }
-    ensures { λ _. ⌜ ((i : ℕ) → i < 128 → getD (now (v .exit)) i 0 < 2 ^ 44) ⌝ }
+fn into_range(v: &mut [u64], n: usize)
+    requires { ⌜ (length (now v) ≡ 128) × (n ≤ 128) ⌝ }
+    ensures { λ _. ⌜ ((i : ℕ) → i < n → getD (now (v .exit)) i 0 < 2 ^ 44) ⌝ }
 {
     let mut i = 0;
-    while i < PLACES {
+    while i < n {
         v[i] = v[i] % TOP;
         i += 1;
     }
@@ -101,12 +105,12 @@ struct Place {
 }
 
 // Levels apart from each other, with room below and above.
-fn start(v: &mut [u64])
-    requires { ⌜ length (now v) ≡ 128 ⌝ }
+fn start(v: &mut [u64], n: usize)
+    requires { ⌜ (length (now v) ≡ 128) × (n ≤ 128) ⌝ }
     ensures { λ _. ⌜ length (now (v .exit)) ≡ 128 ⌝ }
 {
     let mut i = 0;
-    while i < PLACES {
+    while i < n {
         v[i] = 1099511627776 + 1009 * (i as u64);
         i += 1;
     }
@@ -253,9 +257,9 @@ fn weight_of(bound: u64) -> u64
 
 // Lowers levels until no bound and no function asks for more. Where a circle of bounds leaves no room for their slacks, they lose them;
 // where it leaves none at all, or it takes too long, it gives up.
-fn settle(sheet: &[u8], v: &mut [u64], bounds: &mut [u64], before: usize) -> bool
+fn settle(sheet: &[u8], v: &mut [u64], n: usize, bounds: &mut [u64], before: usize) -> bool
     requires { ⌜ Sized (now sheet) × WellFormed (sheetOf (now sheet)) ⌝ }
-    requires { ⌜ (length (now v) ≡ 128) × (length (now bounds) ≡ 192) × (before ≤ 192) ⌝ }
+    requires { ⌜ (length (now v) ≡ 128) × (n ≤ 128) × (length (now bounds) ≡ 192) × (before ≤ 192) ⌝ }
 {
     let mut by = [BOUNDS; PLACES];
     let mut count = before;
@@ -268,12 +272,12 @@ fn settle(sheet: &[u8], v: &mut [u64], bounds: &mut [u64], before: usize) -> boo
                 return true;
             }
             count = more;
-        } else if left % 2 == 0 {
-            if !loosen(bounds, &mut by) {
+        } else if (left <= EARLY) & (left % 2 == 0) {
+            if !loosen(bounds, &mut by, n) {
                 return false;
             }
-            if left == SWEEPS - 4 {
-                arrange(bounds, &mut by, count);
+            if left == EARLY {
+                arrange(bounds, &mut by, n, count);
             }
         }
     }
@@ -335,14 +339,14 @@ fn lower(v: &mut [u64], by: &mut [usize], bound: u64, k: usize) -> bool
 }
 
 // Puts the first so many bounds in an order in which levels run down: each before those that its point a may lower.
-fn arrange(bounds: &mut [u64], by: &mut [usize], count: usize)
-    requires { ⌜ (length (now bounds) ≡ 192) × (length (now by) ≡ 128) × (count ≤ 192) ⌝ }
+fn arrange(bounds: &mut [u64], by: &mut [usize], n: usize, count: usize)
+    requires { ⌜ (length (now bounds) ≡ 192) × (length (now by) ≡ 128) × (n ≤ 128) × (count ≤ 192) ⌝ }
 {
     let mut heads = [0usize; PLACES];
     let mut links = [0usize; LINKS];
     let mut order = [0u64; BOUNDS];
     link(bounds, count, &mut heads, &mut links);
-    let ordered = explore(bounds, &mut heads, &links, &mut order);
+    let ordered = explore(bounds, &mut heads, &links, &mut order, n);
     backwards(bounds, &order, ordered);
     forget(by);
 }
@@ -375,8 +379,14 @@ fn put(heads: &mut [usize], links: &mut [usize], x: usize, at: usize)
 }
 
 // Goes from point to point along the links, and notes each bound behind all that it leads to; answers how many there are.
-fn explore(bounds: &[u64], heads: &mut [usize], links: &[usize], order: &mut [u64]) -> usize
-    requires { ⌜ (length (now bounds) ≡ 192) × (length (now heads) ≡ 128) × (length (now links) ≡ 384) × (length (now order) ≡ 192) ⌝ }
+fn explore(
+    bounds: &[u64],
+    heads: &mut [usize],
+    links: &[usize],
+    order: &mut [u64],
+    n: usize,
+) -> usize
+    requires { ⌜ (length (now bounds) ≡ 192) × (length (now heads) ≡ 128) × (length (now links) ≡ 384) × (length (now order) ≡ 192) × (n ≤ 128) ⌝ }
     ensures { λ r. ⌜ r ≤ 192 ⌝ }
 {
     let mut path = [0usize; PLACES];
@@ -390,7 +400,7 @@ fn explore(bounds: &[u64], heads: &mut [usize], links: &[usize], order: &mut [u6
     let mut left = LINKS + 3 * PLACES;
     while 0 < left {
         left -= 1;
-        if at.start == PLACES {
+        if n <= at.start {
             return at.noted;
         }
         at = advance(bounds, heads, links, order, &mut path, &mut seen, at);
@@ -507,10 +517,10 @@ fn forget(by: &mut [usize])
 }
 
 // Looks for a circle of points, each lowered by the next. Its bounds lose their slacks where it is a tie, and else it answers false.
-fn loosen(bounds: &mut [u64], by: &mut [usize]) -> bool
-    requires { ⌜ (length (now bounds) ≡ 192) × (length (now by) ≡ 128) ⌝ }
+fn loosen(bounds: &mut [u64], by: &mut [usize], n: usize) -> bool
+    requires { ⌜ (length (now bounds) ≡ 192) × (length (now by) ≡ 128) × (n ≤ 128) ⌝ }
 {
-    let x = circle(bounds, by);
+    let x = circle(bounds, by, n);
     if PLACES <= x {
         return true;
     }
@@ -522,12 +532,12 @@ fn loosen(bounds: &mut [u64], by: &mut [usize]) -> bool
 }
 
 // A point on a circle, or PLACES.
-fn circle(bounds: &[u64], by: &[usize]) -> usize
-    requires { ⌜ (length (now bounds) ≡ 192) × (length (now by) ≡ 128) ⌝ }
+fn circle(bounds: &[u64], by: &[usize], n: usize) -> usize
+    requires { ⌜ (length (now bounds) ≡ 192) × (length (now by) ≡ 128) × (n ≤ 128) ⌝ }
 {
     let mut marks = [0usize; PLACES];
     let mut i = 0;
-    while i < PLACES {
+    while i < n {
         let x = walk(bounds, by, &mut marks, i);
         if x < PLACES {
             return x;

@@ -1,8 +1,8 @@
 -- What the check's functions test, part by part. v has a level for each of t terms and, at t, the zero level.
 -- Assumes nothing.
-use Prim.Native.Nat.{ℕ, _+_, _*_, _-_, _^_, _≤_, _<_}
+use Prim.Native.Nat.{ℕ, _+_, _*_, _-_, _/_, _%_, _^_, _≤_, _<_}
 use mathlib.Core.Path.{_≡_}
-use mathlib.Core.Bool.{true}
+use mathlib.Core.Bool.{Bool, true, false}
 use mathlib.Core.List.{List}
 use lib.ListN.{length, getD}
 use Rattle.order.specs.First.{Set}
@@ -56,6 +56,14 @@ pub record Agree (two v : List ℕ) (i j : ℕ) : Type 0 where
 -- term i has the level of every term before it that has its input
 pub record RowAgrees (one two v : List ℕ) (i : ℕ) : Type 0 where
   pub row : 0 < getD one i 0 → (j : ℕ) → j < i → getD one j 0 ≡ getD one i 0 → Agree two v i j
+
+-- a shelf for each first key: keys on two shelves are two
+abbrev pub shelfOf : ℕ → ℕ
+shelfOf key = (key / 512 + key % 512) % 256
+
+-- the shelf of each first key before the k-th is taken
+pub record Shelved (one : List ℕ) (shelves : List Bool) (k : ℕ) : Type 0 where
+  pub taken : (j : ℕ) → j < k → 0 < getD one j 0 → getD shelves (shelfOf (getD one j 0)) false ≡ true
 
 -- in values: term i has the value of every term before it that has its input
 pub record Functional (s : Sheet) (v : List ℕ) (i : ℕ) : Type 0 where

@@ -12,7 +12,7 @@ ghost use Rattle.meaning.specs.Meaning.{Defined, EntryTrue};
 ghost use Rattle.meaning.specs.Decides.{Decides};
 ghost use Rattle.answer.specs.Levels.{valueAt};
 ghost use Rattle.meets.specs.Met.{Met};
-ghost use Rattle.meets.specs.Parts.{Near, Ready, height, firstKey, secondKey, SymbolFits, Agree, RowAgrees, TermsMet, EntriesMet};
+ghost use Rattle.meets.specs.Parts.{Near, Ready, height, firstKey, secondKey, SymbolFits, Agree, RowAgrees, shelfOf, Shelved, TermsMet, EntriesMet};
 use sheet::Biased;
 use sheet::Entry;
 use sheet::EntryNumber;
@@ -68,6 +68,7 @@ fn terms(sheet: &[u8], d: u64, v: &[u64]) -> bool
     let t = sheet::count_terms(sheet);
     let mut one = [0u64; 64];
     let mut two = [0u64; 64];
+    let mut shelves = [false; 256];
     let mut i = 0;
     while i < t {
         let x = sheet::term_at(sheet, TermNumber(i as u8));
@@ -76,7 +77,7 @@ fn terms(sheet: &[u8], d: u64, v: &[u64]) -> bool
         }
         one[i] = first_key(v, t, x);
         two[i] = second_key(v, t, x);
-        if !row(&one, &two, v, i) {
+        if !row(&one, &two, v, &mut shelves, i) {
             return false;
         }
         i += 1;
@@ -125,15 +126,36 @@ fn height_of(v: &[u64], t: usize, a: TermNumber) -> u64
     v[a.0 as usize] + LIMIT - v[t]
 }
 
-// Whether term i has the level of each term before it that has its input.
-fn row(one: &[u64; 64], two: &[u64; 64], v: &[u64], i: usize) -> bool
-    requires { ⌜ (i < 64) × (i < length (now v)) ⌝ }
-    ensures { λ r. ⌜ Decides (RowAgrees (now (one .entry)) (now (two .entry)) (now (v .entry)) i) r ⌝ }
+// Whether term i has the level of each term before it that has its input. An empty shelf says that none has, and spares the comparisons.
+fn row(one: &[u64; 64], two: &[u64; 64], v: &[u64], shelves: &mut [bool], i: usize) -> bool
+    requires { ⌜ (i < 64) × (i < length (now v)) × (length (now shelves) ≡ 256) × Shelved (now one) (now shelves) i ⌝ }
+    ensures agrees { λ r. ⌜ Decides (RowAgrees (now (one .entry)) (now (two .entry)) (now (v .entry)) i) r ⌝ }
+    ensures shelved { λ _. ⌜ Shelved (now (one .entry)) (now (shelves .exit)) (i + 1) ⌝ }
 {
     let key = one[i];
     if key == 0 {
         return true;
     }
+    let shelf = shelf_of(key);
+    if shelves[shelf] {
+        return compare(one, two, v, i);
+    }
+    shelves[shelf] = true;
+    true
+}
+
+fn shelf_of(key: u64) -> usize
+    ensures { λ r. ⌜ r ≡ shelfOf key ⌝ }
+{
+    ((key / 512 + key % 512) % 256) as usize
+}
+
+// The same, term by term.
+fn compare(one: &[u64; 64], two: &[u64; 64], v: &[u64], i: usize) -> bool
+    requires { ⌜ (i < 64) × (i < length (now v)) × (0 < getD (now one) i 0) ⌝ }
+    ensures { λ r. ⌜ Decides (RowAgrees (now (one .entry)) (now (two .entry)) (now (v .entry)) i) r ⌝ }
+{
+    let key = one[i];
     let mut j = 0;
     while j < i {
         if one[j] == key {

@@ -9,10 +9,10 @@ use Rattle.guess.proofs.circle.Statement.{statement}
 use Rattle.guess.proofs.circle.Tie as tie
 
 abbrev Inv-loop : tie.InvT-loop
-Inv-loop bounds by marks₀ i₀ marks i = (length marks ≡ 128) × (i ≤ 128)
+Inv-loop bounds by n marks₀ i₀ marks i = (length marks ≡ 128) × (i ≤ n)
 
 abbrev μ-loop : tie.MeasureT-loop
-μ-loop bounds by marks₀ i₀ marks i = 128 - i
+μ-loop bounds by n marks₀ i₀ marks i = n - i
 
 pub circle-spec : {M : Type 1} → statement M
 circle-spec =

@@ -9,10 +9,10 @@ use Rattle.guess.proofs.explore.Statement.{statement}
 use Rattle.guess.proofs.explore.Tie as tie
 
 abbrev Inv-loop : tie.InvT-loop
-Inv-loop bounds heads₀ links order₀ path₀ seen₀ at₀ left₀ heads order path seen at left = (length heads ≡ length heads₀) × (length order ≡ length order₀) × (length path ≡ 128) × (length seen ≡ 128) × (at .x < 128) × (at .depth ≤ 128) × (at .start ≤ 128) × (at .noted ≤ 192)
+Inv-loop bounds heads₀ links order₀ n path₀ seen₀ at₀ left₀ heads order path seen at left = (length heads ≡ length heads₀) × (length order ≡ length order₀) × (length path ≡ 128) × (length seen ≡ 128) × (at .x < 128) × (at .depth ≤ 128) × (at .start ≤ 128) × (at .noted ≤ 192)
 
 abbrev μ-loop : tie.MeasureT-loop
-μ-loop bounds heads₀ links order₀ path₀ seen₀ at₀ left₀ heads order path seen at left = left
+μ-loop bounds heads₀ links order₀ n path₀ seen₀ at₀ left₀ heads order path seen at left = left
 
 pub explore-spec : {M : Type 1} → statement M
 explore-spec =

@@ -12,10 +12,10 @@ use Rattle.guess.proofs.into_range.Statement.{statement}
 use Rattle.guess.proofs.into_range.Tie as tie
 
 abbrev Inv-loop : tie.InvT-loop
-Inv-loop v₀ i₀ v i = (i ≤ 128) × (length v ≡ length v₀) × ((k : ℕ) → k < i → getD v k 0 < 2 ^ 44)
+Inv-loop v₀ n i₀ v i = (i ≤ n) × (length v ≡ length v₀) × ((k : ℕ) → k < i → getD v k 0 < 2 ^ 44)
 
 abbrev μ-loop : tie.MeasureT-loop
-μ-loop v₀ i₀ v i = 128 - i
+μ-loop v₀ n i₀ v i = n - i
 
 more : (v : List ℕ) (i x : ℕ) → i < length v → x < 2 ^ 44 → ((k : ℕ) → k < i → getD v k 0 < 2 ^ 44) → (k : ℕ) → k < i + 1 → getD (set v i x) k 0 < 2 ^ 44
 more v i x l b h = below-more _ i (λ k p. omega (arith, getD-set-other v i k x 0 (omega arith), h k p)) (omega (arith, getD-set-same v i x 0 l))

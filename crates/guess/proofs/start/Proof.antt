@@ -8,10 +8,10 @@ use Rattle.guess.proofs.start.Statement.{statement}
 use Rattle.guess.proofs.start.Tie as tie
 
 abbrev Inv-loop : tie.InvT-loop
-Inv-loop v₀ i₀ v i = (length v ≡ length v₀) × (i ≤ 128)
+Inv-loop v₀ n i₀ v i = (length v ≡ length v₀) × (i ≤ n)
 
 abbrev μ-loop : tie.MeasureT-loop
-μ-loop v₀ i₀ v i = 128 - i
+μ-loop v₀ n i₀ v i = n - i
 
 pub start-spec : {M : Type 1} → statement M
 start-spec =

@@ -9,12 +9,12 @@ use Rattle.guess.proofs.values.Tie as tie
 
 check-requires : tie.Need-check-requires
 check-requires c κs =
-    let start = c .before .before .before .before .before .before .before .before .before .before .before .before .before .before .before .before .before in
+    let start = c .before .before .before .before .before .before .before .before .before .before .before .before .before .before .before .before .before .before in
     let W = start .pre .0 .1 in
     (start .pre .0, ((start .pre .1 .0, omega (arith, W .terms)), (omega arith, omega arith, λ i l. omega (arith, c .before .before .before .into-range .ensures i (omega (arith, W .terms))))))
 
 pub values-spec : {M : Type 1} → statement M
 values-spec =
     tie.close
-    (tie.spec (λ c κs. search needs) (λ c κs. search needs) (λ c. search needs) (λ c e. absurd (true≢false (sym e))) (λ c κs. search needs) check-requires
+    (tie.spec (λ c κs. search needs) (λ c. search needs) (λ c κs. search needs) (λ c κs. search needs) (λ c. search needs) (λ c e. absurd (true≢false (sym e))) (λ c κs. search needs) check-requires
     (λ c. search needs) (λ c. search needs))

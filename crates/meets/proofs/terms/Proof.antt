@@ -1,7 +1,7 @@
 -- `meets::terms` meets its contract: the terms before the counter are as the meaning asks, and their keys are kept.
 -- Assumes nothing.
 use Prim.Native.Nat.{_+_, _-_, _≤_}
-use mathlib.Core.Path.{_≡_}
+use mathlib.Core.Path.{_≡_, refl}
 use lib.ListN.{length, set, length-set}
 use native.Mathlib.Omega.{arith}
 use borrow.Author.Needs.{needs}
@@ -11,19 +11,21 @@ use Rattle.sheet.specs.Sheet.{ArgumentsBelow}
 use Rattle.sheet.specs.Says.{termSays}
 use Rattle.sheet.proofs.Below.{arguments-wider}
 use Rattle.meaning.proofs.Decides.{refuted}
-use Rattle.meets.specs.Parts.{Ready, TermsMet}
+use Rattle.meets.specs.Parts.{Ready, TermsMet, Shelved}
 use Rattle.meets.proofs.Tests.{shown}
+use Rattle.meets.proofs.Rows.{shelved-none, shelved-kept}
 use Rattle.meets.proofs.Keyed.{Keyed, keyed-none, keyed-more, row-functional, functional-row}
 use Rattle.meets.proofs.Counted.{term-told, terms-none, terms-more}
 use Rattle.meets.proofs.terms.Statement.{statement}
 use Rattle.meets.proofs.terms.Tie as tie
 
 abbrev Inv-loop : tie.InvT-loop
-Inv-loop sheet d v t one₀ two₀ i₀ one two i =
-    (i ≤ t) × (t ≤ 64) × (length one ≡ 64) × (length two ≡ 64) × Keyed (sheetOf sheet) v one two i × TermsMet (sheetOf sheet) d v i
+Inv-loop sheet d v t one₀ two₀ shelves₀ i₀ one two shelves i =
+    (i ≤ t) × (t ≤ 64) × (length one ≡ 64) × (length two ≡ 64) × Keyed (sheetOf sheet) v one two i × TermsMet (sheetOf sheet) d v i ×
+    (length shelves ≡ 256) × Shelved one shelves i
 
 abbrev μ-loop : tie.MeasureT-loop
-μ-loop sheet d v t one₀ two₀ i₀ one two i = t - i
+μ-loop sheet d v t one₀ two₀ shelves₀ i₀ one two shelves i = t - i
 
 -- what the key functions ask
 asked : (c : tie.After-term-at Inv-loop μ-loop) →
@@ -51,7 +53,7 @@ keyed c =
 loop-holds : tie.Need-loop-holds Inv-loop μ-loop
 loop-holds c =
     let pre = c .before .before .before .pre in
-    (omega arith, omega (arith, c .count-terms .ensures .0, pre .0 .1 .terms), search needs, search needs, keyed-none, terms-none)
+    (omega arith, omega (arith, c .count-terms .ensures .0, pre .0 .1 .terms), search needs, search needs, keyed-none, terms-none, refl, shelved-none)
 
 defined-requires : tie.Need-defined-requires Inv-loop μ-loop
 defined-requires c κs =
@@ -68,17 +70,22 @@ returns c =
     (loop .before .count-terms .ensures .0) (read .term-at .ensures) (c .before .defined .ensures) in
     refuted (λ m. test .no (not-true _ (c .if1 .taken)) (m .defined (loop .loop .i) (omega arith)))
 
+row-requires : tie.Need-row-requires Inv-loop μ-loop
+row-requires c κs =
+    let loop = c .before .before .before .before .before .before .before .before .before .loop in
+    (omega arith, omega arith, loop .inv .6, shelved-kept _ (loop .inv .7))
+
 returns-2 : tie.Need-returns-2 Inv-loop μ-loop
 returns-2 c =
-    let kept = c .before .before .before .before in
+    let kept = c .before .before .before .before .before .before in
     let loop = kept .before .before .before .before .before .before in
     let pre = loop .before .before .before .before .pre in
-    refuted (λ m. c .before .row .ensures .no (not-true _ (c .if2 .taken))
+    refuted (λ m. c .before .before .row .ensures .0 .no (not-true _ (c .if2 .taken))
     (functional-row (keyed kept) (pre .0 .1) (pre .1 .1 .near) (omega arith) (m .functions (loop .loop .i) (omega arith))))
 
 loop-again : tie.Need-loop-again Inv-loop μ-loop
 loop-again c =
-    let kept = c .before .before .before .before in
+    let kept = c .before .before .before .before .before .before in
     let test = kept .before .before in
     let read = test .before .before in
     let loop = read .before .before in
@@ -91,7 +98,9 @@ loop-again c =
       simp length-set (loop .loop .inv .3),
       keyed kept,
       terms-more (loop .loop .inv .5) (own .yes (not-false _ (test .if1 .left)))
-          (row-functional (keyed kept) (c .before .row .ensures .yes (not-false _ (c .if2 .left)))),
+          (row-functional (keyed kept) (c .before .before .row .ensures .0 .yes (not-false _ (c .if2 .left)))),
+      omega arith,
+      c .before .before .row .ensures .1,
     )
 
 returns-3 : tie.Need-returns-3 Inv-loop μ-loop
@@ -105,4 +114,4 @@ terms-spec =
     tie.close
     (tie.spec Inv-loop μ-loop (λ c κs. search needs) loop-holds (λ c. search needs) (λ c κs. search needs) defined-requires returns
     (λ c κs. asked (c .before .before)) (λ c. search needs) (λ c. search needs) (λ c κs. asked (c .before .before .before)) (λ c. search needs)
-    (λ c. search needs) (λ c κs. search needs) returns-2 (λ c. search needs) (λ c. search needs) loop-again returns-3)
+    (λ c. search needs) (λ c. search needs) row-requires returns-2 (λ c. search needs) (λ c. search needs) loop-again returns-3)

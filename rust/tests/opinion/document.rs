@@ -1,0 +1,226 @@
+//! Document 01's own sheets, records, refusals and shortcuts.
+
+use crate::common::{answer, sheet, Answer, Line};
+use second::meaning::broken;
+use second::sheet::refusal;
+use second::{Panel, Shortcut};
+use std::fs;
+use std::path::PathBuf;
+
+fn sheets() -> PathBuf {
+    PathBuf::from(env!("CARGO_MANIFEST_DIR")).join("../sheets")
+}
+
+fn read(name: &str) -> Vec<u8> {
+    fs::read(sheets().join(format!("{name}.sheet"))).unwrap()
+}
+
+fn line(answer: &Answer) -> String {
+    match answer {
+        Answer::Holds(..) => String::from("holds"),
+        Answer::Clashes(list) => list.iter().fold(String::from("clashes"), |line, entry| {
+            format!("{line} {entry}")
+        }),
+        Answer::Refused(number, place) => format!("refused {number} at {place}"),
+    }
+}
+
+#[test]
+fn every_sheet_gets_the_line_expected_of_it_and_values_that_keep_the_meaning() {
+    let expected = fs::read_to_string(sheets().join("expected")).unwrap();
+    let mut panel = Panel::new();
+    let mut judged = 0;
+    for row in expected.lines() {
+        let fields: Vec<&str> = row.split('\t').collect();
+        let bytes = read(fields[0]);
+        let answer = answer(&mut panel, &bytes);
+        assert_eq!(
+            line(&answer),
+            fields[1],
+            "sheet {}: {}",
+            fields[0],
+            fields[2]
+        );
+        if let Answer::Holds(d, n) = answer {
+            assert_eq!(
+                broken(&bytes, d, &n),
+                None,
+                "sheet {}: {}",
+                fields[0],
+                fields[2]
+            );
+        }
+        judged += 1;
+    }
+    assert!(judged > 40, "the sheets are there");
+}
+
+#[test]
+fn sheet_1_gets_the_record_that_the_document_writes_out() {
+    let bytes = [
+        0x00, 0x30, 0x01, 0x04, 0x03, 0x00, //
+        0x00, 0x00, 0x00, 0x00, 0x00, 0x00, 0x00, 0x00, 0x00, 0x00, 0x00, 0x00, //
+        0x03, 0x07, 0x00, 0x00, 0x00, 0x00, 0x03, 0x07, 0x01, 0x00, 0x00, 0x00, //
+        0x02, 0x00, 0x00, 0x01, 0x00, 0x00, 0x02, 0x00, 0x01, 0x00, 0x00, 0x00, //
+        0x01, 0x00, 0x02, 0x03, 0x00, 0x00,
+    ];
+    let record = [
+        0x00, 0x0B, 0x01, 0x01, 0x00, 0x03, 0x00, 0x00, 0x00, 0x01, 0x02,
+    ];
+    let mut room = [0; 600];
+    assert_eq!(Panel::new().judge(&bytes, &mut room), (1, 11));
+    assert_eq!(room[..11], record);
+    assert_eq!(room[11..], [0; 589]);
+}
+
+const UNKNOWN: Line = (0, 0, 0, 0, 0);
+
+#[test]
+fn each_ground_of_refusal_is_given_with_its_place_and_the_first_that_applies_wins() {
+    let good = sheet(
+        &[UNKNOWN, (3, 7, 0, 0, 0)],
+        &[(2, 0, 0, 1, 5), (1, 0, 1, 1, 5)],
+    );
+    let mut cases = vec![(good.clone(), None)];
+    let mut case = |changes: &[(usize, u8)], number, place| {
+        let mut bytes = good.clone();
+        for &(at, byte) in changes {
+            bytes[at] = byte;
+        }
+        cases.push((bytes, Some((number, place))));
+    };
+    case(&[(1, 29)], 10, 0);
+    case(&[(0, 1)], 10, 0);
+    case(&[(2, 2)], 11, 0);
+    case(&[(2, 0), (3, 0)], 11, 0);
+    case(&[(3, 0)], 12, 0);
+    case(&[(3, 65)], 12, 0);
+    case(&[(3, 3), (4, 2)], 12, 0);
+    case(&[(4, 65)], 12, 0);
+    case(&[(5, 1), (6, 9)], 12, 0);
+    for at in 7..12 {
+        case(&[(at, 1)], 13, 0);
+    }
+    case(&[(12, 5)], 13, 1);
+    case(&[(14, 1)], 13, 1);
+    case(&[(15, 1)], 13, 1);
+    case(&[(17, 1), (18, 9)], 13, 1);
+    case(&[(18, 4)], 14, 0);
+    case(&[(19, 1)], 14, 0);
+    case(&[(26, 2)], 14, 1);
+    case(&[(27, 2)], 14, 1);
+    case(&[(26, 2), (20, 2)], 14, 0);
+    for (bytes, refused) in cases {
+        assert_eq!(refusal(&bytes, 520), refused, "{bytes:?}");
+        assert_eq!(
+            refusal(&bytes, 519),
+            Some(refused.unwrap_or((15, 0))),
+            "{bytes:?}"
+        );
+    }
+    for length in 0..good.len() {
+        assert_eq!(
+            refusal(&good[..length], 520),
+            Some((10, 0)),
+            "cut to {length} bytes"
+        );
+    }
+}
+
+#[test]
+fn a_refused_sheet_leaves_the_room_alone_and_a_room_of_519_bytes_is_too_small() {
+    let mut room = [0xAA; 519];
+    for name in ["01", "02", "r10a", "r11a", "r12a", "r13a", "r14a"] {
+        let (number, _) = Panel::new().judge(&read(name), &mut room);
+        assert!(number >= 10, "sheet {name}");
+        assert_eq!(room, [0xAA; 519], "sheet {name}");
+    }
+}
+
+#[test]
+fn each_rule_that_values_break_is_named() {
+    // x, 5, x + 2, f(x), f(5), g(x, 5), g(5, x)
+    let terms = [
+        UNKNOWN,
+        (1, 0, 0, 0, 5),
+        (2, 0, 0, 0, 2),
+        (3, 7, 0, 0, 0),
+        (3, 7, 1, 0, 0),
+        (4, 7, 0, 1, 0),
+        (4, 7, 1, 0, 0),
+    ];
+    let entries = [
+        (0, 0, 0, 2, -2),
+        (1, 0, 0, 2, 0),
+        (2, 0, 1, 2, -1),
+        (3, 0, 3, 4, 1),
+    ];
+    let bytes = sheet(&terms, &entries);
+    let breaks = |d: i64, n: [i64; 7], words: &str| {
+        let found = broken(&bytes, d, &n);
+        match &found {
+            None => assert_eq!(words, ""),
+            Some(rule) => assert!(!words.is_empty() && rule.starts_with(words), "{rule}"),
+        }
+    };
+    breaks(2, [9, 10, 13, 0, 1, 7, 8], "");
+    breaks(2, [10, 10, 14, 3, 3, 7, 7], "");
+    breaks(0, [9, 10, 13, 0, 1, 7, 8], "D is 0");
+    breaks(65_536, [9, 10, 13, 0, 1, 7, 8], "D is 65536");
+    breaks(2, [9, 10, 13, 0, 1, 7, 1 << 40], "");
+    breaks(2, [9, 10, 13, 0, 1, 7, (1 << 40) + 1], "term 6: n is");
+    breaks(2, [9, 11, 13, 0, 1, 7, 8], "term 1: the number 5");
+    breaks(2, [9, 10, 14, 0, 1, 7, 8], "term 2: x0 + 2 has");
+    breaks(2, [10, 10, 14, 3, 4, 7, 7], "terms 3 and 4");
+    breaks(2, [10, 10, 14, 3, 3, 7, 8], "terms 5 and 6");
+    breaks(2, [5, 10, 9, 0, 1, 7, 8], "entry 2: x1 ≤ x2 - 1 is");
+    breaks(2, [9, 10, 13, 3, 1, 7, 8], "entry 3: x3 < x4 + 1 is");
+    assert_eq!(
+        broken(&bytes, 2, &[0; 6]),
+        Some(String::from("6 values for 7 terms"))
+    );
+    let apart = sheet(&[UNKNOWN, UNKNOWN], &[(0, 0, 0, 1, 3), (1, 0, 0, 1, 4)]);
+    assert_eq!(broken(&apart, 2, &[6, 0]), None);
+    assert!(broken(&apart, 2, &[7, 0])
+        .unwrap()
+        .starts_with("entry 0: x0 = x1 + 3 is"));
+    let same = sheet(&[UNKNOWN], &[(1, 0, 0, 0, 0)]);
+    assert!(broken(&same, 1, &[1])
+        .unwrap()
+        .starts_with("entry 0: x0 ≠ x0 is"));
+}
+
+#[test]
+fn each_shortcut_is_wrong_on_the_sheet_that_the_document_names() {
+    let met_late = sheet(&[UNKNOWN], &[(2, 0, 0, 0, 0), (3, 0, 0, 0, 0)]);
+    let wrong = [
+        (Shortcut::Apart, read("01"), "holds"),
+        (Shortcut::Once, read("13"), "holds"),
+        (Shortcut::OneHalf, read("13"), "holds"),
+        (Shortcut::OnlyEqual, read("01"), "holds"),
+        (Shortcut::OnlyEqual, read("08"), "holds"),
+        (Shortcut::OnlyEqual, read("09"), "holds"),
+        (Shortcut::MinusOne, read("05"), "clashes 0 1"),
+        (Shortcut::Fewest, read("06"), "clashes 3"),
+        (Shortcut::MetLast, met_late, "clashes 0 1"),
+    ];
+    for (shortcut, bytes, answered) in wrong {
+        let taken = line(&answer(&mut Panel::with(shortcut), &bytes));
+        assert_eq!(taken, answered, "{}", shortcut.name());
+        let honest = line(&answer(&mut Panel::new(), &bytes));
+        assert_ne!(taken, honest, "{}", shortcut.name());
+    }
+    let bytes = read("02");
+    match answer(&mut Panel::with(Shortcut::Level), &bytes) {
+        Answer::Holds(d, n) => assert!(broken(&bytes, d, &n).is_some(), "level: {n:?}"),
+        other => panic!("level: {}", line(&other)),
+    }
+}
+
+#[test]
+fn shortcuts_are_found_by_their_names() {
+    for shortcut in Shortcut::ALL {
+        assert_eq!(Shortcut::from_name(shortcut.name()), Some(shortcut));
+    }
+    assert_eq!(Shortcut::from_name("honest"), None);
+}

@@ -1,0 +1,122 @@
+//! The program: one line for a sheet, and a batch of frames.
+
+use second::sheet::ROOM;
+use second::Panel;
+use std::io::{Read, Write};
+use std::process::{Command, Output, Stdio};
+
+fn run(arguments: &[&str], input: &[u8]) -> Output {
+    let mut program = Command::new(env!("CARGO_BIN_EXE_second"));
+    program
+        .args(arguments)
+        .stdin(Stdio::piped())
+        .stdout(Stdio::piped())
+        .stderr(Stdio::piped());
+    let mut running = program.spawn().unwrap();
+    // A program that doesn't read its input is no fault here.
+    let _ = running.stdin.take().unwrap().write_all(input);
+    running.wait_with_output().unwrap()
+}
+
+fn read(name: &str) -> Vec<u8> {
+    let path = format!("{}/../sheets/{name}.sheet", env!("CARGO_MANIFEST_DIR"));
+    std::fs::read(path).unwrap()
+}
+
+fn frame(sheet: &[u8]) -> Vec<u8> {
+    let mut frame = (sheet.len() as u16).to_be_bytes().to_vec();
+    frame.extend(sheet);
+    frame
+}
+
+fn answer(mut panel: Panel, sheet: &[u8]) -> Vec<u8> {
+    let mut room = [0xAA; ROOM];
+    let (number, place) = panel.judge(sheet, &mut room);
+    let mut answer = vec![number];
+    answer.extend(place.to_be_bytes());
+    answer.extend(room);
+    answer
+}
+
+#[test]
+fn one_sheet_gets_one_line() {
+    let long = [read("14b"), vec![0; 1_000]].concat();
+    for (sheet, line) in [
+        (read("01"), "clashes 0 1 2\n"),
+        (read("02"), "holds\n"),
+        (read("r13c"), "refused 13 at 2\n"),
+        (Vec::new(), "refused 10 at 0\n"),
+        (long, "refused 10 at 0\n"),
+    ] {
+        let output = run(&[], &sheet);
+        assert!(output.status.success());
+        assert_eq!(String::from_utf8(output.stdout).unwrap(), line);
+    }
+}
+
+#[test]
+fn a_batch_answers_every_whole_frame_before_one_cut_short_or_too_large() {
+    let sheets = [
+        read("01"),
+        read("02"),
+        read("r13a"),
+        Vec::new(),
+        vec![0; 4_096],
+        read("14b"),
+    ];
+    let frames: Vec<u8> = sheets.iter().flat_map(|sheet| frame(sheet)).collect();
+    let answers: Vec<u8> = sheets
+        .iter()
+        .flat_map(|sheet| answer(Panel::new(), sheet))
+        .collect();
+    let cut = &frame(&read("01"))[..49];
+    let too_large = [&[0x10, 0x01][..], &[0; 0x1001]].concat();
+    for end in [&[][..], &[0], cut, &too_large] {
+        let output = run(&["batch"], &[&frames, end].concat());
+        assert!(output.status.success());
+        assert_eq!(output.stdout, answers);
+    }
+}
+
+#[test]
+fn a_batch_may_take_a_shortcut_and_other_words_are_not_understood() {
+    let sheet = read("06");
+    let fewest = second::Shortcut::from_name("fewest").unwrap();
+    let output = run(&["batch", "fewest"], &frame(&sheet));
+    assert_eq!(output.stdout, answer(Panel::with(fewest), &sheet));
+    for arguments in [
+        &["bunch"][..],
+        &["batch", "honest"],
+        &["batch", "once", "twice"],
+    ] {
+        let output = run(arguments, &[]);
+        assert_eq!(output.status.code(), Some(2));
+        assert!(output.stdout.is_empty() && !output.stderr.is_empty());
+    }
+}
+
+#[test]
+fn a_batch_answers_while_the_other_side_waits() {
+    let mut program = Command::new(env!("CARGO_BIN_EXE_second"));
+    program
+        .arg("batch")
+        .stdin(Stdio::piped())
+        .stdout(Stdio::piped());
+    let mut running = program.spawn().unwrap();
+    let mut input = running.stdin.take().unwrap();
+    let mut output = running.stdout.take().unwrap();
+    let sheet = read("13");
+    let frames = frame(&sheet).repeat(4);
+    let one = frames.len() / 4;
+    let mut given = vec![0; 3 + ROOM];
+    let mut sent = 0;
+    // The other side stops between frames, amid a count, amid a sheet, and at the end.
+    for end in [one, 2 * one + 1, 3 * one + 10, 4 * one] {
+        input.write_all(&frames[sent..end]).unwrap();
+        sent = end;
+        output.read_exact(&mut given).unwrap();
+        assert_eq!(given, answer(Panel::new(), &sheet));
+    }
+    drop(input);
+    assert!(running.wait().unwrap().success());
+}
