@@ -13,7 +13,6 @@ use sheet::Biased;
 use sheet::Entry;
 use sheet::EntryNumber;
 use sheet::Relation;
-use sheet::Symbol;
 use sheet::Term;
 use sheet::TermNumber;
 
@@ -36,8 +35,10 @@ const SHELVES: usize = 256;
 // The search gives up after so many sweeps.
 const SWEEPS: usize = 400;
 
-// Most levels settle early. With so many sweeps left the bounds are put in order, and from then on circles are looked for.
+// Most levels settle early. With so many sweeps left circles are looked for, and later the bounds are put in order.
 const EARLY: usize = 396;
+
+const LATE: usize = 392;
 
 // 32,768 in parts of D: the bias of a bound's c.
 const BIAS: u64 = 32768 * D;
@@ -54,6 +55,13 @@ const AT_MOST: u64 = 0;
 const LESS: u64 = 1;
 
 const TIE: u64 = 2;
+
+// The fields of an application.
+const SECOND: u64 = 16384;
+
+const KEY: u64 = 2097152;
+
+const ONE: u64 = 1073741824;
 
 // Over every level.
 const TOP: u64 = 17592186044416;
@@ -79,9 +87,11 @@ fn search(sheet: &[u8], set: &[bool], v: &mut [u64], n: usize) -> bool
     requires { ⌜ (countEntries (sheetOf (now sheet)) ≤ length (now set)) × (length (now v) ≡ 128) × (n ≤ 128) ⌝ }
 {
     let mut bounds = [0u64; BOUNDS];
+    let mut applications = [0u64; sheet::MAX_TERMS];
     let terms = note_terms(sheet, &mut bounds);
     let count = note_entries(sheet, set, &mut bounds, terms);
-    settle(sheet, v, n, &mut bounds, count)
+    let applied = note_applications(sheet, &mut applications);
+    settle(v, n, &mut bounds, count, &applications, applied)
 }
 
 // Levels that ran off come back into the range that meets asks for.
@@ -257,9 +267,16 @@ fn weight_of(bound: u64) -> u64
 
 // Lowers levels until no bound and no function asks for more. Where a circle of bounds leaves no room for their slacks, they lose them;
 // where it leaves none at all, or it takes too long, it gives up.
-fn settle(sheet: &[u8], v: &mut [u64], n: usize, bounds: &mut [u64], before: usize) -> bool
-    requires { ⌜ Sized (now sheet) × WellFormed (sheetOf (now sheet)) ⌝ }
+fn settle(
+    v: &mut [u64],
+    n: usize,
+    bounds: &mut [u64],
+    before: usize,
+    applications: &[u64],
+    applied: usize,
+) -> bool
     requires { ⌜ (length (now v) ≡ 128) × (n ≤ 128) × (length (now bounds) ≡ 192) × (before ≤ 192) ⌝ }
+    requires { ⌜ (length (now applications) ≡ 64) × (applied ≤ 64) ⌝ }
 {
     let mut by = [BOUNDS; PLACES];
     let mut count = before;
@@ -267,16 +284,16 @@ fn settle(sheet: &[u8], v: &mut [u64], n: usize, bounds: &mut [u64], before: usi
     while 0 < left {
         left -= 1;
         if !sweep(v, bounds, &mut by, count, left % 2 == 1) {
-            let more = pass(sheet, v, bounds, &mut by, count);
+            let more = pass(v, bounds, &mut by, count, applications, applied);
             if more == count {
                 return true;
             }
             count = more;
-        } else if (left <= EARLY) & (left % 2 == 0) {
+        } else if left <= EARLY {
             if !loosen(bounds, &mut by, n) {
                 return false;
             }
-            if left == EARLY {
+            if left == LATE {
                 arrange(bounds, &mut by, n, count);
             }
         }
@@ -516,11 +533,26 @@ fn forget(by: &mut [usize])
     }
 }
 
-// Looks for a circle of points, each lowered by the next. Its bounds lose their slacks where it is a tie, and else it answers false.
+// Looks for circles of points, each lowered by the next. Their bounds lose their slacks where a circle is a tie; else it answers false.
 fn loosen(bounds: &mut [u64], by: &mut [usize], n: usize) -> bool
     requires { ⌜ (length (now bounds) ≡ 192) × (length (now by) ≡ 128) × (n ≤ 128) ⌝ }
 {
-    let x = circle(bounds, by, n);
+    let mut marks = [0u8; PLACES];
+    let mut i = 0;
+    while i < n {
+        if !loosen_from(bounds, by, &mut marks, i) {
+            return false;
+        }
+        i += 1;
+    }
+    true
+}
+
+// The circle that point i leads to, if there is one.
+fn loosen_from(bounds: &mut [u64], by: &mut [usize], marks: &mut [u8], i: usize) -> bool
+    requires { ⌜ (length (now bounds) ≡ 192) × (length (now by) ≡ 128) × (length (now marks) ≡ 128) × (i < 128) ⌝ }
+{
+    let x = walk(bounds, by, marks, i);
     if PLACES <= x {
         return true;
     }
@@ -531,27 +563,11 @@ fn loosen(bounds: &mut [u64], by: &mut [usize], n: usize) -> bool
     true
 }
 
-// A point on a circle, or PLACES.
-fn circle(bounds: &[u64], by: &[usize], n: usize) -> usize
-    requires { ⌜ (length (now bounds) ≡ 192) × (length (now by) ≡ 128) × (n ≤ 128) ⌝ }
-{
-    let mut marks = [0usize; PLACES];
-    let mut i = 0;
-    while i < n {
-        let x = walk(bounds, by, &mut marks, i);
-        if x < PLACES {
-            return x;
-        }
-        i += 1;
-    }
-    PLACES
-}
-
 // From point i on until no bound lowered the point, or it is marked: with i's own mark there is a circle.
-fn walk(bounds: &[u64], by: &[usize], marks: &mut [usize], i: usize) -> usize
+fn walk(bounds: &[u64], by: &[usize], marks: &mut [u8], i: usize) -> usize
     requires { ⌜ (length (now bounds) ≡ 192) × (length (now by) ≡ 128) × (length (now marks) ≡ 128) × (i < 128) ⌝ }
 {
-    let mark = 1 + i;
+    let mark = 1 + (i as u8);
     let mut x = i;
     let mut left = PLACES;
     while 0 < left {
@@ -649,127 +665,76 @@ fn drop_slack(bounds: &mut [u64], k: usize)
 }
 
 // Ties applications that have the same input now and aren't level, and answers how many bounds there are then.
-fn pass(sheet: &[u8], v: &mut [u64], bounds: &mut [u64], by: &mut [usize], before: usize) -> usize
-    requires { ⌜ Sized (now sheet) × WellFormed (sheetOf (now sheet)) ⌝ }
+fn pass(
+    v: &mut [u64],
+    bounds: &mut [u64],
+    by: &mut [usize],
+    before: usize,
+    applications: &[u64],
+    applied: usize,
+) -> usize
     requires { ⌜ (length (now v) ≡ 128) × (length (now bounds) ≡ 192) × (length (now by) ≡ 128) × (before ≤ 192) ⌝ }
+    requires { ⌜ (length (now applications) ≡ 64) × (applied ≤ 64) ⌝ }
     ensures { λ r. ⌜ r ≤ 192 ⌝ }
 {
-    let t = sheet::count_terms(sheet);
-    let mut one = [0u64; sheet::MAX_TERMS];
-    let mut two = [0u64; sheet::MAX_TERMS];
+    let mut inputs = [0u64; sheet::MAX_TERMS];
     let mut shelves = [false; SHELVES];
     let mut count = before;
-    let mut i = 0;
-    while i < t {
-        let term = sheet::term_at(sheet, TermNumber(i as u8));
-        count = pass_term(
-            v,
-            bounds,
-            by,
-            &mut one,
-            &mut two,
-            &mut shelves,
-            count,
-            i,
-            term,
-        );
-        i += 1;
+    let mut k = 0;
+    while k < applied {
+        count = pass_one(v, bounds, by, &mut inputs, &mut shelves, count, applications, k);
+        k += 1;
     }
     count
 }
 
-// Term i, with the terms before it.
-fn pass_term(
+// The k-th application, with those before it.
+fn pass_one(
     v: &mut [u64],
     bounds: &mut [u64],
     by: &mut [usize],
-    one: &mut [u64],
-    two: &mut [u64],
+    inputs: &mut [u64],
     shelves: &mut [bool],
     count: usize,
-    i: usize,
-    t: Term,
+    applications: &[u64],
+    k: usize,
 ) -> usize
     requires { ⌜ (length (now v) ≡ 128) × (length (now bounds) ≡ 192) × (length (now by) ≡ 128) × (count ≤ 192) ⌝ }
-    requires { ⌜ (length (now one) ≡ 64) × (length (now two) ≡ 64) × (length (now shelves) ≡ 256) × (i < 64) ⌝ }
+    requires { ⌜ (length (now inputs) ≡ 64) × (length (now shelves) ≡ 256) × (length (now applications) ≡ 64) × (k < 64) ⌝ }
     ensures { λ r. ⌜ r ≤ 192 ⌝ }
 {
-    let input = first_input(v, t);
-    one[i] = input;
-    two[i] = second_input(v, t);
-    if input == 0 {
-        return count;
-    }
-    let shelf = shelf_of(input);
+    let input = input_of(v, applications[k]);
+    inputs[k] = input;
+    let shelf = ((input / 512 + input % 512) % 256) as usize;
     if !shelves[shelf] {
         shelves[shelf] = true;
         return count;
     }
-    let j = uneven(v, one, two, i);
-    if i <= j {
+    let j = uneven(v, inputs, applications, k);
+    if k <= j {
         return count;
     }
-    tie(v, bounds, by, count, i, j)
+    tie(v, bounds, by, count, own_of(applications[k]), own_of(applications[j]))
 }
 
-// A term's input as two numbers: its kind, symbol and first argument's level, and its second argument's. 0 and 0 for no application.
-fn first_input(v: &[u64], t: Term) -> u64
-    requires { ⌜ length (now v) ≡ 128 ⌝ }
+// The first application before the k-th that has its input and isn't level with it, or k.
+fn uneven(v: &[u64], inputs: &[u64], applications: &[u64], k: usize) -> usize
+    requires { ⌜ (length (now v) ≡ 128) × (length (now inputs) ≡ 64) × (length (now applications) ≡ 64) × (k < 64) ⌝ }
+    ensures { λ r. ⌜ r ≤ k ⌝ }
 {
-    match t {
-        Term::Apply(f, a) => 512 * level(v, a) + 1 + (f.0 as u64),
-        Term::Apply2(f, a, b) => 512 * level(v, a) + 257 + (f.0 as u64),
-        _ => 0,
-    }
-}
-
-// Inputs on two shelves are two.
-fn shelf_of(input: u64) -> usize
-    ensures { λ r. ⌜ r < 256 ⌝ }
-{
-    ((input / 512 + input % 512) % 256) as usize
-}
-
-fn second_input(v: &[u64], t: Term) -> u64
-    requires { ⌜ length (now v) ≡ 128 ⌝ }
-{
-    match t {
-        Term::Apply2(f, a, b) => level(v, b),
-        _ => 0,
-    }
-}
-
-fn level(v: &[u64], a: TermNumber) -> u64
-    requires { ⌜ length (now v) ≡ 128 ⌝ }
-    ensures { λ r. ⌜ r ≡ getD (now (v .entry)) (a .0 % 128) 0 % 2 ^ 44 ⌝ }
-{
-    v[(a.0 % 128) as usize] % TOP
-}
-
-// The first term before i that has its input and isn't level with it, or i.
-fn uneven(v: &[u64], one: &[u64], two: &[u64], i: usize) -> usize
-    requires { ⌜ (length (now v) ≡ 128) × (length (now one) ≡ 64) × (length (now two) ≡ 64) × (i < 64) ⌝ }
-    ensures { λ r. ⌜ r ≤ i ⌝ }
-{
+    let own = v[own_of(applications[k])];
     let mut j = 0;
-    while j < i {
-        if (one[j] == one[i]) & (two[j] == two[i]) & (v[j] != v[i]) {
+    while j < k {
+        if (inputs[j] == inputs[k]) & (v[own_of(applications[j])] != own) {
             return j;
         }
         j += 1;
     }
-    i
+    k
 }
 
 // Ties term i to term j for good.
-fn tie(
-    v: &mut [u64],
-    bounds: &mut [u64],
-    by: &mut [usize],
-    count: usize,
-    i: usize,
-    j: usize,
-) -> usize
+fn tie(v: &mut [u64], bounds: &mut [u64], by: &mut [usize], count: usize, i: usize, j: usize) -> usize
     requires { ⌜ (length (now v) ≡ 128) × (length (now bounds) ≡ 192) × (length (now by) ≡ 128) × (count ≤ 192) × (i < 128) × (j < 128) ⌝ }
     ensures { λ r. ⌜ r ≤ 192 ⌝ }
 {
@@ -779,4 +744,67 @@ fn tie(
     let tied = bound(i as u64, j as u64, TIE, 0, Biased::ZERO);
     lower(v, by, tied, count);
     note(bounds, count, tied)
+}
+
+// The applications, from the first place on, and how many there are.
+fn note_applications(sheet: &[u8], applications: &mut [u64]) -> usize
+    requires { ⌜ Sized (now sheet) × WellFormed (sheetOf (now sheet)) × (length (now applications) ≡ 64) ⌝ }
+    ensures { λ r. ⌜ r ≤ 64 ⌝ }
+{
+    let t = sheet::count_terms(sheet);
+    let mut applied = 0;
+    let mut i = 0;
+    while i < t {
+        let application = application_of(i as u64, sheet::term_at(sheet, TermNumber(i as u8)));
+        applied = note_application(applications, applied, application);
+        i += 1;
+    }
+    applied
+}
+
+fn note_application(applications: &mut [u64], applied: usize, application: u64) -> usize
+    requires { ⌜ (length (now applications) ≡ 64) × (applied ≤ 64) ⌝ }
+    ensures { λ r. ⌜ r ≤ 64 ⌝ }
+{
+    if application == 0 {
+        return applied;
+    }
+    if sheet::MAX_TERMS <= applied {
+        return applied;
+    }
+    applications[applied] = application;
+    applied + 1
+}
+
+// An application is one number: its own, its two arguments, and its kind and symbol; 0 is none.
+fn application_of(i: u64, t: Term) -> u64
+    requires { ⌜ i < 128 ⌝ }
+    ensures { λ r. ⌜ r < 2 ^ 32 ⌝ }
+{
+    match t {
+        Term::Apply(f, a) => ONE + i + 128 * ((a.0 % 128) as u64) + KEY * (f.0 as u64),
+        Term::Apply2(f, a, b) => {
+            ONE + i + 128 * ((a.0 % 128) as u64) + SECOND * ((b.0 % 128) as u64) + KEY * (256 + f.0 as u64)
+        }
+        _ => 0,
+    }
+}
+
+fn own_of(application: u64) -> usize
+    ensures { λ r. ⌜ r ≡ application % 128 ⌝ }
+{
+    (application % 128) as usize
+}
+
+// Kind, symbol and the arguments' levels as one number. Two inputs may share it, which costs a guess and nothing else.
+fn input_of(v: &[u64], application: u64) -> u64
+    requires { ⌜ length (now v) ≡ 128 ⌝ }
+{
+    let a = v[(application / 128 % 128) as usize] % TOP;
+    let b = v[(application / SECOND % 128) as usize] % TOP;
+    let key = application / KEY % 512;
+    if key < 256 {
+        return key + 512 * a;
+    }
+    key + 512 * a + 7919 * b
 }

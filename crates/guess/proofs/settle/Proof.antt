@@ -9,12 +9,12 @@ use Rattle.guess.proofs.settle.Statement.{statement}
 use Rattle.guess.proofs.settle.Tie as tie
 
 abbrev Inv-loop : tie.InvT-loop
-Inv-loop sheet v₀ n bounds₀ before by₀ count₀ left₀ v bounds by count left = (length v ≡ length v₀) × (length bounds ≡ length bounds₀) × (length by ≡ 128) × (count ≤ 192)
+Inv-loop v₀ n bounds₀ before applications applied by₀ count₀ left₀ v bounds by count left = (length v ≡ length v₀) × (length bounds ≡ length bounds₀) × (length by ≡ 128) × (count ≤ 192)
 
 abbrev μ-loop : tie.MeasureT-loop
-μ-loop sheet v₀ n bounds₀ before by₀ count₀ left₀ v bounds by count left = left
+μ-loop v₀ n bounds₀ before applications applied by₀ count₀ left₀ v bounds by count left = left
 
 pub settle-spec : {M : Type 1} → statement M
 settle-spec =
     tie.close
-    (tie.spec Inv-loop μ-loop (λ c. (refl, refl, refl, omega arith)) (λ c. search needs) (λ c. search needs) (λ c κs. search needs) (λ c. search needs) (λ c κs. (c .before .before .before .before .before .before .before .before .before .before .before .before .before .before .before .before .pre .0, (omega arith, omega arith, omega arith, omega arith))) (λ c. search needs) (λ c. search needs) (λ c. search needs) (λ c. search needs) (λ c. search needs) (λ c. search needs) (λ c κs. search needs) (λ c. search needs) (λ c. search needs) (λ c. search needs) (λ c. search needs) (λ c κs. search needs) (λ c. search needs) (λ c. search needs) (λ c. search needs) (λ c. search needs) (λ c. search needs) (λ c. search needs) (λ c. search needs) (λ c. search needs) (λ c. search needs))
+    (tie.spec Inv-loop μ-loop (λ c. (refl, refl, refl, omega arith)) (λ c. search needs) (λ c. search needs) (λ c κs. search needs) (λ c. search needs) (λ c κs. search needs) (λ c. search needs) (λ c. search needs) (λ c. search needs) (λ c. search needs) (λ c. search needs) (λ c. search needs) (λ c κs. search needs) (λ c. search needs) (λ c. search needs) (λ c. search needs) (λ c. search needs) (λ c κs. search needs) (λ c. search needs) (λ c. search needs) (λ c. search needs) (λ c. search needs) (λ c. search needs) (λ c. search needs) (λ c. search needs) (λ c. search needs) (λ c. search needs))

@@ -6,12 +6,12 @@ use Rattle.guess.proofs.uneven.Statement.{statement}
 use Rattle.guess.proofs.uneven.Tie as tie
 
 abbrev Inv-loop : tie.InvT-loop
-Inv-loop v one two i j₀ j = j ≤ i
+Inv-loop v inputs applications k own j₀ j = j ≤ k
 
 abbrev μ-loop : tie.MeasureT-loop
-μ-loop v one two i j₀ j = i - j
+μ-loop v inputs applications k own j₀ j = k - j
 
 pub uneven-spec : {M : Type 1} → statement M
 uneven-spec =
     tie.close
-    (tie.spec Inv-loop μ-loop (λ c. search needs) (λ c. search needs) (λ c. search needs) (λ c. search needs) (λ c. search needs) (λ c. search needs) (λ c. search needs) (λ c. search needs) (λ c. search needs) (λ c. search needs) (λ c. search needs) (λ c. search needs) (λ c. search needs) (λ c. search needs) (λ c. search needs) (λ c. search needs) (λ c. search needs) (λ c. search needs))
+    (tie.spec Inv-loop μ-loop (λ c. search needs) (λ c. search needs) (λ c κs. search needs) (λ c. search needs) (λ c. search needs) (λ c. search needs) (λ c. search needs) (λ c. search needs) (λ c. search needs) (λ c. search needs) (λ c. search needs) (λ c. search needs) (λ c κs. search needs) (λ c. search needs) (λ c. search needs) (λ c. search needs) (λ c. search needs) (λ c. search needs) (λ c. search needs) (λ c. search needs))
