@@ -38,7 +38,7 @@ const SWEEPS: usize = 400;
 // Most levels settle early. With so many sweeps left circles are looked for, and later the bounds are put in order.
 const EARLY: usize = 396;
 
-const LATE: usize = 392;
+const LATE: usize = 388;
 
 // 32,768 in parts of D: the bias of a bound's c.
 const BIAS: u64 = 32768 * D;
@@ -62,6 +62,13 @@ const SECOND: u64 = 16384;
 const KEY: u64 = 2097152;
 
 const ONE: u64 = 1073741824;
+
+// What circles are found: none, ties, or one that leaves no room.
+const NONE: u8 = 0;
+
+const TIES: u8 = 1;
+
+const NO_ROOM: u8 = 2;
 
 // Over every level.
 const TOP: u64 = 17592186044416;
@@ -280,6 +287,7 @@ fn settle(
 {
     let mut by = [BOUNDS; PLACES];
     let mut count = before;
+    let mut tied = false;
     let mut left = SWEEPS;
     while 0 < left {
         left -= 1;
@@ -289,11 +297,13 @@ fn settle(
                 return true;
             }
             count = more;
-        } else if left <= EARLY {
-            if !loosen(bounds, &mut by, n) {
+        } else if (left <= EARLY) & (left % 2 == 0) {
+            let found = loosen(bounds, &mut by, n);
+            if found == NO_ROOM {
                 return false;
             }
-            if left == LATE {
+            tied = tied | (found == TIES);
+            if (left == LATE) & !tied {
                 arrange(bounds, &mut by, n, count);
             }
         }
@@ -533,34 +543,37 @@ fn forget(by: &mut [usize])
     }
 }
 
-// Looks for circles of points, each lowered by the next. Their bounds lose their slacks where a circle is a tie; else it answers false.
-fn loosen(bounds: &mut [u64], by: &mut [usize], n: usize) -> bool
+// Looks for circles of points, each lowered by the next. The bounds of a circle that is a tie lose their slacks.
+fn loosen(bounds: &mut [u64], by: &mut [usize], n: usize) -> u8
     requires { ⌜ (length (now bounds) ≡ 192) × (length (now by) ≡ 128) × (n ≤ 128) ⌝ }
 {
     let mut marks = [0u8; PLACES];
+    let mut found = NONE;
     let mut i = 0;
     while i < n {
-        if !loosen_from(bounds, by, &mut marks, i) {
-            return false;
+        let here = loosen_from(bounds, by, &mut marks, i);
+        if here == NO_ROOM {
+            return NO_ROOM;
         }
+        found = found | here;
         i += 1;
     }
-    true
+    found
 }
 
 // The circle that point i leads to, if there is one.
-fn loosen_from(bounds: &mut [u64], by: &mut [usize], marks: &mut [u8], i: usize) -> bool
+fn loosen_from(bounds: &mut [u64], by: &mut [usize], marks: &mut [u8], i: usize) -> u8
     requires { ⌜ (length (now bounds) ≡ 192) × (length (now by) ≡ 128) × (length (now marks) ≡ 128) × (i < 128) ⌝ }
 {
     let x = walk(bounds, by, marks, i);
     if PLACES <= x {
-        return true;
+        return NONE;
     }
     if around(bounds, by, x) != 0 {
-        return false;
+        return NO_ROOM;
     }
     free(bounds, by, x);
-    true
+    TIES
 }
 
 // From point i on until no bound lowered the point, or it is marked: with i's own mark there is a circle.
@@ -682,7 +695,16 @@ fn pass(
     let mut count = before;
     let mut k = 0;
     while k < applied {
-        count = pass_one(v, bounds, by, &mut inputs, &mut shelves, count, applications, k);
+        count = pass_one(
+            v,
+            bounds,
+            by,
+            &mut inputs,
+            &mut shelves,
+            count,
+            applications,
+            k,
+        );
         k += 1;
     }
     count
@@ -714,7 +736,14 @@ fn pass_one(
     if k <= j {
         return count;
     }
-    tie(v, bounds, by, count, own_of(applications[k]), own_of(applications[j]))
+    tie(
+        v,
+        bounds,
+        by,
+        count,
+        own_of(applications[k]),
+        own_of(applications[j]),
+    )
 }
 
 // The first application before the k-th that has its input and isn't level with it, or k.
@@ -734,7 +763,14 @@ fn uneven(v: &[u64], inputs: &[u64], applications: &[u64], k: usize) -> usize
 }
 
 // Ties term i to term j for good.
-fn tie(v: &mut [u64], bounds: &mut [u64], by: &mut [usize], count: usize, i: usize, j: usize) -> usize
+fn tie(
+    v: &mut [u64],
+    bounds: &mut [u64],
+    by: &mut [usize],
+    count: usize,
+    i: usize,
+    j: usize,
+) -> usize
     requires { ⌜ (length (now v) ≡ 128) × (length (now bounds) ≡ 192) × (length (now by) ≡ 128) × (count ≤ 192) × (i < 128) × (j < 128) ⌝ }
     ensures { λ r. ⌜ r ≤ 192 ⌝ }
 {
@@ -784,7 +820,11 @@ fn application_of(i: u64, t: Term) -> u64
     match t {
         Term::Apply(f, a) => ONE + i + 128 * ((a.0 % 128) as u64) + KEY * (f.0 as u64),
         Term::Apply2(f, a, b) => {
-            ONE + i + 128 * ((a.0 % 128) as u64) + SECOND * ((b.0 % 128) as u64) + KEY * (256 + f.0 as u64)
+            ONE
+                + i
+                + 128 * ((a.0 % 128) as u64)
+                + SECOND * ((b.0 % 128) as u64)
+                + KEY * (256 + f.0 as u64)
         }
         _ => 0,
     }

@@ -9,10 +9,10 @@ use Rattle.guess.proofs.loosen.Statement.{statement}
 use Rattle.guess.proofs.loosen.Tie as tie
 
 abbrev Inv-loop : tie.InvT-loop
-Inv-loop bounds₀ by₀ n marks₀ i₀ bounds by marks i = (length bounds ≡ length bounds₀) × (length by ≡ length by₀) × (length marks ≡ 128) × (i ≤ n)
+Inv-loop bounds₀ by₀ n marks₀ found₀ i₀ bounds by marks found i = (length bounds ≡ length bounds₀) × (length by ≡ length by₀) × (length marks ≡ 128) × (i ≤ n)
 
 abbrev μ-loop : tie.MeasureT-loop
-μ-loop bounds₀ by₀ n marks₀ i₀ bounds by marks i = n - i
+μ-loop bounds₀ by₀ n marks₀ found₀ i₀ bounds by marks found i = n - i
 
 pub loosen-spec : {M : Type 1} → statement M
 loosen-spec =

@@ -9,10 +9,10 @@ use Rattle.guess.proofs.settle.Statement.{statement}
 use Rattle.guess.proofs.settle.Tie as tie
 
 abbrev Inv-loop : tie.InvT-loop
-Inv-loop v₀ n bounds₀ before applications applied by₀ count₀ left₀ v bounds by count left = (length v ≡ length v₀) × (length bounds ≡ length bounds₀) × (length by ≡ 128) × (count ≤ 192)
+Inv-loop v₀ n bounds₀ before applications applied by₀ count₀ tied₀ left₀ v bounds by count tied left = (length v ≡ length v₀) × (length bounds ≡ length bounds₀) × (length by ≡ 128) × (count ≤ 192)
 
 abbrev μ-loop : tie.MeasureT-loop
-μ-loop v₀ n bounds₀ before applications applied by₀ count₀ left₀ v bounds by count left = left
+μ-loop v₀ n bounds₀ before applications applied by₀ count₀ tied₀ left₀ v bounds by count tied left = left
 
 pub settle-spec : {M : Type 1} → statement M
 settle-spec =
