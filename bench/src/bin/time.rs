@@ -1,7 +1,7 @@
 //! Times the proved panel and the independent one on the same sheets, turn by turn.
 //!
 //!     time          a line for each sheet: what it is, nanoseconds of both (- for a panel that isn't built in)
-//!     time smt      the same sheets as questions to an SMT solver, each with a line that says how often it is asked
+//!     time smt      the same sheets as questions to an SMT solver, each after a line that says what it is
 //!
 //! A verdict is a call on a sheet that holds, and so makes no list; a first list is a call on one
 //! that clashes.
@@ -36,7 +36,7 @@ fn main() {
 type Make = fn(usize, bool) -> Sheet;
 
 const FAMILIES: [(&str, Make); 7] = [
-    ("chain", |size, holds| chain(size, holds)),
+    ("chain", chain),
     ("chain, shuffled", |size, holds| {
         chain(size, holds).shuffled(&mut Random::of(1, "bench", size as u64))
     }),
@@ -102,7 +102,8 @@ fn around_levels(size: usize, random: &mut Random) -> Sheet {
     sheet
 }
 
-/// Two towers of one function over x and y, with x ≤ y below, and a ≠ on each floor.
+/// Two towers of one function over x and y, with x ≤ y below, and a ≠ on each floor; where it
+/// clashes, x = y below by two bounds, and the tops are unequal.
 fn tower(size: usize, holds: bool) -> Sheet {
     floors(size, holds, false)
 }
@@ -125,8 +126,12 @@ fn floors(size: usize, holds: bool, tied: bool) -> Sheet {
         if tied {
             sheet.at_most(fx, fy, 0);
             sheet.at_most(fy, fx, 1);
-        } else if holds {
-            sheet.unequal(fx, fy, 0);
+        } else {
+            if holds {
+                sheet.unequal(fx, fy, 0);
+            } else {
+                sheet.at_most(fy, y, 1000);
+            }
             sheet.at_most(fx, x, 1000);
         }
     }
@@ -218,8 +223,8 @@ fn per_call(call: &mut dyn FnMut()) -> u64 {
     (start.elapsed().as_nanos() / calls) as u64
 }
 
-/// The sheet for an SMT solver: the verdict, or for a list the question for each entry that is
-/// tried to be left out, which is known from the list.
+/// The sheet for an SMT solver, in SMT-LIB 2: the question for all entries, and for a list the one
+/// for each entry that is tried to be left out. All answers are known from the list, and stated.
 fn ask(name: &str, sheet: &Sheet, list: &[u8]) {
     println!("; {name}");
     println!("(set-logic QF_UFLRA)");
@@ -238,17 +243,17 @@ fn ask(name: &str, sheet: &Sheet, list: &[u8]) {
         }
     }
     let all: Vec<usize> = (0..sheet.entries.len()).collect();
-    let mut sets = vec![all.clone()];
+    let mut sets = vec![(all.clone(), list.is_empty())];
     if !list.is_empty() {
+        let listed = |entry: usize| list.contains(&(entry as u8));
         for &left_out in all.iter().rev() {
-            let kept = |&entry: &usize| {
-                entry < left_out || entry > left_out && list.contains(&(entry as u8))
-            };
-            sets.push(all.iter().copied().filter(kept).collect());
+            let kept = |&entry: &usize| entry < left_out || entry > left_out && listed(entry);
+            sets.push((all.iter().copied().filter(kept).collect(), listed(left_out)));
         }
     }
-    for set in sets {
+    for (set, holds) in sets {
         println!("(push)");
+        println!("(set-info :status {})", if holds { "sat" } else { "unsat" });
         for entry in set {
             let entry = sheet.entries[entry];
             let right = format!("(+ t{} {})", entry.b.0, number(entry.c));

@@ -9,6 +9,7 @@ ghost use Rattle.order.specs.First.{marked};
 ghost use Rattle.sheet.specs.Decode.{Sized, sheetOf};
 ghost use Rattle.sheet.specs.Sheet.{WellFormed, countTerms, countEntries};
 ghost use Rattle.meets.specs.Met.{Met};
+ghost use Rattle.guess.specs.Search.{Worked};
 use sheet::Biased;
 use sheet::Entry;
 use sheet::EntryNumber;
@@ -92,6 +93,7 @@ pub fn values(sheet: &[u8], set: &[bool], v: &mut [u64]) -> bool
 fn search(sheet: &[u8], set: &[bool], v: &mut [u64], n: usize) -> bool
     requires { ⌜ Sized (now sheet) × WellFormed (sheetOf (now sheet)) ⌝ }
     requires { ⌜ (countEntries (sheetOf (now sheet)) ≤ length (now set)) × (length (now v) ≡ 128) × (n ≤ 128) ⌝ }
+    ensures { λ _. ⌜ Worked (now (v .entry)) (now (v .exit)) ⌝ }
 {
     let mut bounds = [0u64; BOUNDS];
     let mut applications = [0u64; sheet::MAX_TERMS];
@@ -136,7 +138,8 @@ fn start(v: &mut [u64], n: usize)
 // The bounds of the terms, from the first place on, and how many there are then.
 fn note_terms(sheet: &[u8], bounds: &mut [u64]) -> usize
     requires { ⌜ Sized (now sheet) × WellFormed (sheetOf (now sheet)) × (length (now bounds) ≡ 192) ⌝ }
-    ensures { λ r. ⌜ r ≤ 192 ⌝ }
+    ensures answer { λ r. ⌜ r ≤ 192 ⌝ }
+    ensures worked { λ _. ⌜ Worked (now (bounds .entry)) (now (bounds .exit)) ⌝ }
 {
     let t = sheet::count_terms(sheet);
     let mut count = 0;
@@ -157,7 +160,8 @@ fn note_terms(sheet: &[u8], bounds: &mut [u64]) -> usize
 fn note_entries(sheet: &[u8], set: &[bool], bounds: &mut [u64], before: usize) -> usize
     requires { ⌜ Sized (now sheet) × WellFormed (sheetOf (now sheet)) × (length (now bounds) ≡ 192) × (before ≤ 192) ⌝ }
     requires { ⌜ countEntries (sheetOf (now sheet)) ≤ length (now set) ⌝ }
-    ensures { λ r. ⌜ r ≤ 192 ⌝ }
+    ensures answer { λ r. ⌜ r ≤ 192 ⌝ }
+    ensures worked { λ _. ⌜ Worked (now (bounds .entry)) (now (bounds .exit)) ⌝ }
 {
     let l = sheet::count_entries(sheet);
     let mut count = before;
@@ -172,7 +176,8 @@ fn note_entries(sheet: &[u8], set: &[bool], bounds: &mut [u64], before: usize) -
 fn note_entry(sheet: &[u8], set: &[bool], bounds: &mut [u64], count: usize, e: usize) -> usize
     requires { ⌜ Sized (now sheet) × WellFormed (sheetOf (now sheet)) × (length (now bounds) ≡ 192) × (count ≤ 192) ⌝ }
     requires { ⌜ (e < countEntries (sheetOf (now sheet))) × (countEntries (sheetOf (now sheet)) ≤ length (now set)) ⌝ }
-    ensures { λ r. ⌜ r ≤ 192 ⌝ }
+    ensures answer { λ r. ⌜ r ≤ 192 ⌝ }
+    ensures worked { λ _. ⌜ Worked (now (bounds .entry)) (now (bounds .exit)) ⌝ }
 {
     if !set[e] {
         return count;
@@ -187,7 +192,8 @@ fn note_entry(sheet: &[u8], set: &[bool], bounds: &mut [u64], count: usize, e: u
 // One bound behind the first so many, where it is one and there is a place for it.
 fn note(bounds: &mut [u64], count: usize, bound: u64) -> usize
     requires { ⌜ (length (now bounds) ≡ 192) × (count ≤ 192) ⌝ }
-    ensures { λ r. ⌜ (count ≤ r) × (r ≤ 192) ⌝ }
+    ensures answer { λ r. ⌜ (count ≤ r) × (r ≤ 192) ⌝ }
+    ensures worked { λ _. ⌜ Worked (now (bounds .entry)) (now (bounds .exit)) ⌝ }
 {
     if bound == 0 {
         return count;
@@ -284,6 +290,7 @@ fn settle(
 ) -> bool
     requires { ⌜ (length (now v) ≡ 128) × (n ≤ 128) × (length (now bounds) ≡ 192) × (before ≤ 192) ⌝ }
     requires { ⌜ (length (now applications) ≡ 64) × (applied ≤ 64) ⌝ }
+    ensures { λ _. ⌜ Worked (now (v .entry)) (now (v .exit)) × Worked (now (bounds .entry)) (now (bounds .exit)) ⌝ }
 {
     let mut by = [BOUNDS; PLACES];
     let mut count = before;
@@ -314,6 +321,7 @@ fn settle(
 // Lowers by each of the first so many bounds once, in either order, and tells whether a level fell.
 fn sweep(v: &mut [u64], bounds: &[u64], by: &mut [usize], count: usize, up: bool) -> bool
     requires { ⌜ (length (now v) ≡ 128) × (length (now bounds) ≡ 192) × (length (now by) ≡ 128) × (count ≤ 192) ⌝ }
+    ensures { λ _. ⌜ Worked (now (v .entry)) (now (v .exit)) × Worked (now (by .entry)) (now (by .exit)) ⌝ }
 {
     let mut fell = false;
     let mut k = 0;
@@ -336,6 +344,7 @@ fn turn(count: usize, k: usize, up: bool) -> usize
 // Lowers what the bound asks to be lowered: point a, or for a tie point b.
 fn lower(v: &mut [u64], by: &mut [usize], bound: u64, k: usize) -> bool
     requires { ⌜ (length (now v) ≡ 128) × (length (now by) ≡ 128) × (k < 192) ⌝ }
+    ensures { λ _. ⌜ Worked (now (v .entry)) (now (v .exit)) × Worked (now (by .entry)) (now (by .exit)) ⌝ }
 {
     let a = point_a(bound);
     let b = point_b(bound);
@@ -368,6 +377,7 @@ fn lower(v: &mut [u64], by: &mut [usize], bound: u64, k: usize) -> bool
 // Puts the first so many bounds in an order in which levels run down: each before those that its point a may lower.
 fn arrange(bounds: &mut [u64], by: &mut [usize], n: usize, count: usize)
     requires { ⌜ (length (now bounds) ≡ 192) × (length (now by) ≡ 128) × (n ≤ 128) × (count ≤ 192) ⌝ }
+    ensures { λ _. ⌜ Worked (now (bounds .entry)) (now (bounds .exit)) × Worked (now (by .entry)) (now (by .exit)) ⌝ }
 {
     let mut heads = [0usize; PLACES];
     let mut links = [0usize; LINKS];
@@ -381,6 +391,7 @@ fn arrange(bounds: &mut [u64], by: &mut [usize], n: usize, count: usize)
 // Each point's bounds as a row of links: link 2k lets bound k lower its point a, and 2k + 1 its point b. A link is named by one more.
 fn link(bounds: &[u64], count: usize, heads: &mut [usize], links: &mut [usize])
     requires { ⌜ (length (now bounds) ≡ 192) × (count ≤ 192) × (length (now heads) ≡ 128) × (length (now links) ≡ 384) ⌝ }
+    ensures { λ _. ⌜ Worked (now (heads .entry)) (now (heads .exit)) × Worked (now (links .entry)) (now (links .exit)) ⌝ }
 {
     let mut k = 0;
     while k < count {
@@ -391,6 +402,7 @@ fn link(bounds: &[u64], count: usize, heads: &mut [usize], links: &mut [usize])
 
 fn link_one(heads: &mut [usize], links: &mut [usize], bound: u64, k: usize)
     requires { ⌜ (length (now heads) ≡ 128) × (length (now links) ≡ 384) × (k < 192) ⌝ }
+    ensures { λ _. ⌜ Worked (now (heads .entry)) (now (heads .exit)) × Worked (now (links .entry)) (now (links .exit)) ⌝ }
 {
     put(heads, links, point_b(bound), 2 * k);
     if kind_of(bound) == TIE {
@@ -400,6 +412,7 @@ fn link_one(heads: &mut [usize], links: &mut [usize], bound: u64, k: usize)
 
 fn put(heads: &mut [usize], links: &mut [usize], x: usize, at: usize)
     requires { ⌜ (length (now heads) ≡ 128) × (length (now links) ≡ 384) × (x < 128) × (at < 384) ⌝ }
+    ensures { λ _. ⌜ Worked (now (heads .entry)) (now (heads .exit)) × Worked (now (links .entry)) (now (links .exit)) ⌝ }
 {
     links[at] = heads[x];
     heads[x] = at + 1;
@@ -414,7 +427,8 @@ fn explore(
     n: usize,
 ) -> usize
     requires { ⌜ (length (now bounds) ≡ 192) × (length (now heads) ≡ 128) × (length (now links) ≡ 384) × (length (now order) ≡ 192) × (n ≤ 128) ⌝ }
-    ensures { λ r. ⌜ r ≤ 192 ⌝ }
+    ensures answer { λ r. ⌜ r ≤ 192 ⌝ }
+    ensures worked { λ _. ⌜ Worked (now (heads .entry)) (now (heads .exit)) × Worked (now (order .entry)) (now (order .exit)) ⌝ }
 {
     let mut path = [0usize; PLACES];
     let mut seen = [false; PLACES];
@@ -447,7 +461,8 @@ fn advance(
 ) -> Place
     requires { ⌜ (length (now bounds) ≡ 192) × (length (now heads) ≡ 128) × (length (now links) ≡ 384) × (length (now order) ≡ 192) ⌝ }
     requires { ⌜ (length (now path) ≡ 128) × (length (now seen) ≡ 128) × (at .x < 128) × (at .depth ≤ 128) × (at .start < 128) × (at .noted ≤ 192) ⌝ }
-    ensures { λ r. ⌜ (r .x < 128) × (r .depth ≤ 128) × (r .start ≤ 128) × (r .noted ≤ 192) ⌝ }
+    ensures answer { λ r. ⌜ (r .x < 128) × (r .depth ≤ 128) × (r .start ≤ 128) × (r .noted ≤ 192) ⌝ }
+    ensures worked { λ _. ⌜ Worked (now (heads .entry)) (now (heads .exit)) × Worked (now (order .entry)) (now (order .exit)) × Worked (now (path .entry)) (now (path .exit)) × Worked (now (seen .entry)) (now (seen .exit)) ⌝ }
 {
     let x = at.x;
     seen[x] = true;
@@ -525,6 +540,7 @@ fn lowering(bounds: &[u64], link: usize) -> u64
 // The first so many of the order, backwards.
 fn backwards(bounds: &mut [u64], order: &[u64], count: usize)
     requires { ⌜ (length (now bounds) ≡ 192) × (length (now order) ≡ 192) × (count ≤ 192) ⌝ }
+    ensures { λ _. ⌜ Worked (now (bounds .entry)) (now (bounds .exit)) ⌝ }
 {
     let mut k = 0;
     while k < count {
@@ -535,6 +551,7 @@ fn backwards(bounds: &mut [u64], order: &[u64], count: usize)
 
 fn forget(by: &mut [usize])
     requires { ⌜ length (now by) ≡ 128 ⌝ }
+    ensures { λ _. ⌜ Worked (now (by .entry)) (now (by .exit)) ⌝ }
 {
     let mut i = 0;
     while i < PLACES {
@@ -546,6 +563,7 @@ fn forget(by: &mut [usize])
 // Looks for circles of points, each lowered by the next. The bounds of a circle that is a tie lose their slacks.
 fn loosen(bounds: &mut [u64], by: &mut [usize], n: usize) -> u8
     requires { ⌜ (length (now bounds) ≡ 192) × (length (now by) ≡ 128) × (n ≤ 128) ⌝ }
+    ensures { λ _. ⌜ Worked (now (bounds .entry)) (now (bounds .exit)) × Worked (now (by .entry)) (now (by .exit)) ⌝ }
 {
     let mut marks = [0u8; PLACES];
     let mut found = NONE;
@@ -564,6 +582,7 @@ fn loosen(bounds: &mut [u64], by: &mut [usize], n: usize) -> u8
 // The circle that point i leads to, if there is one.
 fn loosen_from(bounds: &mut [u64], by: &mut [usize], marks: &mut [u8], i: usize) -> u8
     requires { ⌜ (length (now bounds) ≡ 192) × (length (now by) ≡ 128) × (length (now marks) ≡ 128) × (i < 128) ⌝ }
+    ensures { λ _. ⌜ Worked (now (bounds .entry)) (now (bounds .exit)) × Worked (now (by .entry)) (now (by .exit)) × Worked (now (marks .entry)) (now (marks .exit)) ⌝ }
 {
     let x = walk(bounds, by, marks, i);
     if PLACES <= x {
@@ -579,6 +598,7 @@ fn loosen_from(bounds: &mut [u64], by: &mut [usize], marks: &mut [u8], i: usize)
 // From point i on until no bound lowered the point, or it is marked: with i's own mark there is a circle.
 fn walk(bounds: &[u64], by: &[usize], marks: &mut [u8], i: usize) -> usize
     requires { ⌜ (length (now bounds) ≡ 192) × (length (now by) ≡ 128) × (length (now marks) ≡ 128) × (i < 128) ⌝ }
+    ensures { λ _. ⌜ Worked (now (marks .entry)) (now (marks .exit)) ⌝ }
 {
     let mark = 1 + (i as u8);
     let mut x = i;
@@ -603,6 +623,7 @@ fn walk(bounds: &[u64], by: &[usize], marks: &mut [u8], i: usize) -> usize
 // The bound that lowered point x last.
 fn last(bounds: &[u64], by: &[usize], x: usize) -> u64
     requires { ⌜ (length (now bounds) ≡ 192) × (length (now by) ≡ 128) × (x < 128) ⌝ }
+    ensures { λ r. ⌜ r ≡ getD (now (bounds .entry)) (getD (now (by .entry)) x 0) 0 ⌝ }
 {
     let k = by[x];
     if BOUNDS <= k {
@@ -653,6 +674,7 @@ fn step(bound: u64, x: usize) -> u64 {
 // Takes their slacks from the bounds of a circle through x, and forgets by which bounds its points were lowered.
 fn free(bounds: &mut [u64], by: &mut [usize], x: usize)
     requires { ⌜ (length (now bounds) ≡ 192) × (length (now by) ≡ 128) × (x < 128) ⌝ }
+    ensures { λ _. ⌜ Worked (now (bounds .entry)) (now (bounds .exit)) × Worked (now (by .entry)) (now (by .exit)) ⌝ }
 {
     let mut y = x;
     let mut left = PLACES;
@@ -671,6 +693,7 @@ fn free(bounds: &mut [u64], by: &mut [usize], x: usize)
 
 fn drop_slack(bounds: &mut [u64], k: usize)
     requires { ⌜ length (now bounds) ≡ 192 ⌝ }
+    ensures { λ _. ⌜ Worked (now (bounds .entry)) (now (bounds .exit)) ⌝ }
 {
     if k < BOUNDS {
         bounds[k] = bounds[k] - SLACK * slack_of(bounds[k]);
@@ -688,7 +711,8 @@ fn pass(
 ) -> usize
     requires { ⌜ (length (now v) ≡ 128) × (length (now bounds) ≡ 192) × (length (now by) ≡ 128) × (before ≤ 192) ⌝ }
     requires { ⌜ (length (now applications) ≡ 64) × (applied ≤ 64) ⌝ }
-    ensures { λ r. ⌜ r ≤ 192 ⌝ }
+    ensures answer { λ r. ⌜ r ≤ 192 ⌝ }
+    ensures worked { λ _. ⌜ Worked (now (v .entry)) (now (v .exit)) × Worked (now (bounds .entry)) (now (bounds .exit)) × Worked (now (by .entry)) (now (by .exit)) ⌝ }
 {
     let mut inputs = [0u64; sheet::MAX_TERMS];
     let mut shelves = [false; SHELVES];
@@ -723,7 +747,8 @@ fn pass_one(
 ) -> usize
     requires { ⌜ (length (now v) ≡ 128) × (length (now bounds) ≡ 192) × (length (now by) ≡ 128) × (count ≤ 192) ⌝ }
     requires { ⌜ (length (now inputs) ≡ 64) × (length (now shelves) ≡ 256) × (length (now applications) ≡ 64) × (k < 64) ⌝ }
-    ensures { λ r. ⌜ r ≤ 192 ⌝ }
+    ensures answer { λ r. ⌜ r ≤ 192 ⌝ }
+    ensures worked { λ _. ⌜ Worked (now (v .entry)) (now (v .exit)) × Worked (now (bounds .entry)) (now (bounds .exit)) × Worked (now (by .entry)) (now (by .exit)) × Worked (now (inputs .entry)) (now (inputs .exit)) × Worked (now (shelves .entry)) (now (shelves .exit)) ⌝ }
 {
     let input = input_of(v, applications[k]);
     inputs[k] = input;
@@ -772,7 +797,8 @@ fn tie(
     j: usize,
 ) -> usize
     requires { ⌜ (length (now v) ≡ 128) × (length (now bounds) ≡ 192) × (length (now by) ≡ 128) × (count ≤ 192) × (i < 128) × (j < 128) ⌝ }
-    ensures { λ r. ⌜ r ≤ 192 ⌝ }
+    ensures answer { λ r. ⌜ r ≤ 192 ⌝ }
+    ensures worked { λ _. ⌜ Worked (now (v .entry)) (now (v .exit)) × Worked (now (bounds .entry)) (now (bounds .exit)) × Worked (now (by .entry)) (now (by .exit)) ⌝ }
 {
     if BOUNDS <= count {
         return count;
@@ -785,7 +811,8 @@ fn tie(
 // The applications, from the first place on, and how many there are.
 fn note_applications(sheet: &[u8], applications: &mut [u64]) -> usize
     requires { ⌜ Sized (now sheet) × WellFormed (sheetOf (now sheet)) × (length (now applications) ≡ 64) ⌝ }
-    ensures { λ r. ⌜ r ≤ 64 ⌝ }
+    ensures answer { λ r. ⌜ r ≤ 64 ⌝ }
+    ensures worked { λ _. ⌜ Worked (now (applications .entry)) (now (applications .exit)) ⌝ }
 {
     let t = sheet::count_terms(sheet);
     let mut applied = 0;
@@ -800,7 +827,8 @@ fn note_applications(sheet: &[u8], applications: &mut [u64]) -> usize
 
 fn note_application(applications: &mut [u64], applied: usize, application: u64) -> usize
     requires { ⌜ (length (now applications) ≡ 64) × (applied ≤ 64) ⌝ }
-    ensures { λ r. ⌜ r ≤ 64 ⌝ }
+    ensures answer { λ r. ⌜ r ≤ 64 ⌝ }
+    ensures worked { λ _. ⌜ Worked (now (applications .entry)) (now (applications .exit)) ⌝ }
 {
     if application == 0 {
         return applied;

@@ -1,0 +1,10 @@
+-- `guess::advance` meets its contract: every write leaves as many places.
+-- Assumes nothing.
+use borrow.Author.Needs.{needs}
+use Rattle.guess.proofs.advance.Statement.{statement}
+use Rattle.guess.proofs.advance.Tie as tie
+
+pub advance-spec : {M : Type 1} → statement M
+advance-spec =
+    tie.close
+    (tie.spec (λ c. search needs) (λ c. search needs) (λ c. search needs) (λ c κs. search needs) (λ c. search needs) (λ c. search needs) (λ c. search needs) (λ c κs. search needs) (λ c. search needs) (λ c. search needs) (λ c. search needs) (λ c. search needs) (λ c κs. search needs) (λ c. search needs) (λ c. search needs) (λ c. search needs) (λ c. search needs) (λ c. search needs) (λ c. search needs) (λ c. search needs) (λ c κs. search needs) (λ c κs. search needs) (λ c. search needs) (λ c. search needs) (λ c. search needs) (λ c. ((search needs, search needs, search needs, search needs), (search needs, search needs, search needs, search needs))) (λ c κs. search needs) (λ c. search needs) (λ c. search needs) (λ c. ((search needs, search needs, search needs, search needs), (search needs, search needs, search needs, search needs))) (λ c. search needs) (λ c. search needs) (λ c. search needs) (λ c. search needs) (λ c. search needs) (λ c. ((search needs, search needs, search needs, search needs), (search needs, search needs, search needs, search needs))))
