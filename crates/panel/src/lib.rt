@@ -1,5 +1,6 @@
 // The call: a sheet's bytes in, the answer record out, for any bytes and any answer room.
-// It rests on the refusal table's check, the verdict, the values and the first clashing list, and joins them.
+// It rests on the refusal table's check, on values that are guessed and checked, and else on the verdict, its values and the first
+// clashing list, and joins them.
 // Its promise is one record (specs/Answered.antt); that a reply is unique but for the values is shown in proofs/.
 ghost use mathlib.Core.Path.{_≡_};
 ghost use Prim.Native.Nat.{_≤_};

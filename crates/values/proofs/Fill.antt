@@ -1,7 +1,7 @@
 -- The levels of a closed table as the levels of a record: what the record of these says.
 -- Assumes nothing.
-use Prim.Native.Nat.{ℕ, _+_, _*_, _<_}
-use mathlib.Core.Path.{_≡_, refl, sym, _∙_, ap, ap₂}
+use Prim.Native.Nat.{ℕ, _*_, _<_}
+use mathlib.Core.Path.{_≡_, _∙_, ap, ap₂}
 use mathlib.Core.List.{List}
 use lib.IntN.{ℤ, subℕ}
 use lib.ListN.{getD}

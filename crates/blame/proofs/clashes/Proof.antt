@@ -10,7 +10,7 @@ use Rattle.blame.proofs.clashes.Tie as tie
 
 returns : tie.Need-returns
 returns c =
-    let met = c .before .before .values .ensures (c .if1 .taken) in
+    let met = c .before .before .values .ensures .0 (c .if1 .taken) in
     (refuted (λ clash. clash (record { D = _; n = _; meet = met .meet })), record { right = λ i j l h. refl; below = λ k l. refl })
 
 returns-2 : tie.Need-returns-2

@@ -35,5 +35,6 @@ returns c = λ i l. c .before .loop .inv .2 i (omega arith)
 pub into-range-spec : {M : Type 1} → statement M
 into-range-spec =
     tie.close
-    (tie.spec Inv-loop μ-loop loop-holds (λ c. search needs) (λ c. search needs) (λ c. search needs) (λ c. search needs) (λ c. search needs) (λ c. search needs) loop-again
+    (tie.spec Inv-loop μ-loop loop-holds (λ c. search needs) (λ c. search needs) (λ c. search needs) (λ c. search needs) (λ c. search needs)
+    (λ c. search needs) loop-again
     (λ c. search needs) returns)

@@ -17,4 +17,6 @@ abbrev μ-loop : tie.MeasureT-loop
 pub note-entries-spec : {M : Type 1} → statement M
 note-entries-spec =
     tie.close
-    (tie.spec Inv-loop μ-loop (λ c κs. search needs) (λ c. search needs) (λ c κs. (let p = c .before .before .before .before .before .before .before .pre in ((p .0 .0, p .0 .1, omega arith, omega arith), (omega arith, p .1)))) (λ c. search needs) (λ c. search needs) (λ c. search needs) (λ c. search needs) (λ c. search needs))
+    (tie.spec Inv-loop μ-loop (λ c κs. search needs) (λ c. search needs)
+    (λ c κs. (let p = c .before .before .before .before .before .before .before .pre in ((p .0 .0, p .0 .1, omega arith, omega arith), (omega arith, p .1))))
+    (λ c. search needs) (λ c. search needs) (λ c. search needs) (λ c. search needs) (λ c. search needs))

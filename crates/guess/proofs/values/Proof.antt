@@ -16,5 +16,6 @@ check-requires c κs =
 pub values-spec : {M : Type 1} → statement M
 values-spec =
     tie.close
-    (tie.spec (λ c κs. search needs) (λ c. search needs) (λ c κs. search needs) (λ c κs. search needs) (λ c. search needs) (λ c e. absurd (true≢false (sym e))) (λ c κs. search needs) check-requires
+    (tie.spec (λ c κs. search needs) (λ c. search needs) (λ c κs. search needs) (λ c κs. search needs) (λ c. search needs)
+    (λ c. (λ e. absurd (true≢false (sym e)), search needs)) (λ c κs. search needs) check-requires
     (λ c. search needs) (λ c. search needs))

@@ -1,9 +1,7 @@
 -- `meets::row` meets its contract: an empty shelf says that no term before has the input.
 -- Assumes nothing.
-use mathlib.Core.Path.{_≡_, sym, _∙_, ap}
 use native.Mathlib.Omega.{arith}
 use borrow.Author.Needs.{needs}
-use borrow.Author.Tests.{not-true}
 use Rattle.meets.proofs.Rows.{row-free, row-alone, shelved-free, shelved-full, shelved-put}
 use Rattle.meets.proofs.row.Statement.{statement}
 use Rattle.meets.proofs.row.Tie as tie

@@ -1,6 +1,5 @@
 -- `panel::decide` meets its contract: with values that meet the sheet, or as the table says.
 -- Assumes nothing.
-use mathlib.Core.Path.{_∙_}
 use mathlib.Core.Logic.{inl}
 use native.Mathlib.Omega.{arith}
 use borrow.Author.Needs.{needs}
@@ -16,7 +15,7 @@ returns-2 c =
     let start = c .before .before .before .before .before .before .before .before .before .before .before .before .before in
     let test = counted .before .before .before in
     inl
-    (says-met _ _ _ (omega arith) (start .pre .1) (counted .count-terms .ensures .0) (omega arith, omega arith) (test .before .before .values .ensures (not-false _ (test .if1 .left)))
+    (says-met _ _ _ (omega arith) (start .pre .1) (counted .count-terms .ensures .0) (omega arith, omega arith) (test .before .before .values .ensures .0 (not-false _ (test .if1 .left)))
     (made .holds .ensures .0, made .holds .ensures .1))
 
 pub decide-spec : {M : Type 1} → statement M

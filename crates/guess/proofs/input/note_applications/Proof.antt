@@ -1,0 +1,20 @@
+-- `guess::input::note_applications` meets its contract.
+-- Assumes nothing.
+use Prim.Native.Nat.{_-_, _≤_}
+use mathlib.Core.Path.{_≡_}
+use lib.ListN.{length}
+use borrow.Author.Needs.{needs}
+use Rattle.guess.proofs.input.note_applications.Statement.{statement}
+use Rattle.guess.proofs.input.note_applications.Tie as tie
+
+abbrev Inv-loop : tie.InvT-loop
+Inv-loop sheet applications₀ t applied₀ i₀ applications applied i = (length applications ≡ length applications₀) × (applied ≤ 64) × (i ≤ t)
+
+abbrev μ-loop : tie.MeasureT-loop
+μ-loop sheet applications₀ t applied₀ i₀ applications applied i = t - i
+
+pub note-applications-spec : {M : Type 1} → statement M
+note-applications-spec =
+    tie.close
+    (tie.spec Inv-loop μ-loop (λ c κs. search needs) (λ c. search needs) (λ c. search needs) (λ c κs. search needs) (λ c κs. search needs)
+    (λ c κs. search needs) (λ c. search needs) (λ c. search needs) (λ c. search needs) (λ c. search needs) (λ c. search needs))
