@@ -1,6 +1,7 @@
 // Circles of points, each lowered by the next: a circle of total 0 is a tie, which leaves no room for slack; one under it leaves none at all.
 ghost use mathlib.Core.Path.{_≡_};
-ghost use Prim.Native.Nat.{_≤_, _<_};
+ghost use mathlib.Core.Logic.{_≢_};
+ghost use Prim.Native.Nat.{_+_, _/_, _%_, _^_, _≤_, _<_};
 ghost use lib.ListN.{length, getD};
 ghost use Rattle.guess.specs.Search.{Worked};
 use crate::bound;
@@ -116,7 +117,10 @@ fn around(bounds: &[u64], by: &[usize], x: usize) -> u64
 }
 
 // One bound of a circle, gone along from point x.
-fn step(bound: u64, x: usize) -> u64 {
+fn step(bound: u64, x: usize) -> u64
+    ensures from_a { λ r. ⌜ (bound % 128 ≡ x → (r + 2147450880) % 2 ^ 64 ≡ bound / 268435456 + bound / 65536 % 4 % 2) ⌝ }
+    ensures from_b { λ r. ⌜ (bound % 128 ≢ x → (r + bound / 268435456) % 2 ^ 64 ≡ 2147450880) ⌝ }
+{
     if bound::point_a(bound) != x {
         return std::num::wrapping_sub_u64(bound::BIAS, bound::weight_of(bound));
     }

@@ -188,6 +188,7 @@ fn own_of(application: u64) -> usize
 // Kind, symbol and the arguments' levels as one number. Two inputs may share it, which costs a guess and nothing else.
 fn input_of(v: &[u64], application: u64) -> u64
     requires { ⌜ length (now v) ≡ 128 ⌝ }
+    ensures { λ r. ⌜ r < 2 ^ 58 ⌝ }
 {
     let a = v[(application / 128 % 128) as usize] % level::TOP;
     let b = v[(application / SECOND % 128) as usize] % level::TOP;

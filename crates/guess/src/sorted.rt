@@ -1,7 +1,7 @@
 // An order of bounds in which levels run down, for sheets whose entries stand in no such order: found by going from point to point.
 ghost use mathlib.Core.Path.{_≡_};
-ghost use Prim.Native.Nat.{_≤_, _<_};
-ghost use lib.ListN.{length};
+ghost use Prim.Native.Nat.{_/_, _%_, _≤_, _<_};
+ghost use lib.ListN.{length, getD};
 ghost use Rattle.guess.specs.Search.{Worked};
 use crate::bound;
 
@@ -175,6 +175,8 @@ fn end_of(bounds: &[u64], link: usize) -> usize
 // The bound of a link, once: 0 for the second link of a tie.
 fn lowering(bounds: &[u64], link: usize) -> u64
     requires { ⌜ (length (now bounds) ≡ 192) × (link < 384) ⌝ }
+    ensures first { λ r. ⌜ (link % 2 ≡ 0 → r ≡ getD (now (bounds .entry)) (link / 2) 0) ⌝ }
+    ensures second { λ r. ⌜ (link % 2 ≡ 1 → r ≡ 0) ⌝ }
 {
     if link % 2 == 0 { bounds[link / 2] } else { 0 }
 }
