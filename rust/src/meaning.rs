@@ -3,6 +3,7 @@
 //! Rests on "What it means to hold" and the limits of "The answer record". Values are tested with
 //! this, so it is as plain as can be and shares nothing with the judging but reading the fields.
 
+use crate::random::words::shifted;
 use crate::sheet::{entries, terms, Record};
 
 /// In words, the first rule that the values n/D of the terms break; for a sheet that isn't
@@ -29,9 +30,9 @@ pub fn broken(sheet: &[u8], d: i64, n: &[i64]) -> Option<String> {
             return Some(format!("term {i}: the number {c} has n = {own}, D = {d}"));
         }
         if kind == 2 && own != n_of(a) + times_d(c) {
-            let (shift, other) = (in_words(a, c), n_of(a));
+            let (shift, other) = (shifted(a, c), n_of(a));
             return Some(format!(
-                "term {i}: {shift} has n = {own}, x{a} has {other}, D = {d}"
+                "term {i}: {shift} has n = {own}, t{a} has {other}, D = {d}"
             ));
         }
     }
@@ -64,19 +65,11 @@ pub fn broken(sheet: &[u8], d: i64, n: &[i64]) -> Option<String> {
             _ => ("<", left < right),
         };
         if !holds {
-            let (shift, other) = (in_words(b, c), n_of(b));
+            let (shift, other) = (shifted(b, c), n_of(b));
             return Some(format!(
-                "entry {i}: x{a} {sign} {shift} is false of n = {left} and {other}, D = {d}"
+                "entry {i}: t{a} {sign} {shift} is false of n = {left} and {other}, D = {d}"
             ));
         }
     }
     None
-}
-
-fn in_words(term: u8, c: i16) -> String {
-    match i32::from(c) {
-        0 => format!("x{term}"),
-        c if c > 0 => format!("x{term} + {c}"),
-        c => format!("x{term} - {}", -c),
-    }
 }

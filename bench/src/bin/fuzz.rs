@@ -1,41 +1,54 @@
 //! Feeds the proved panel random, damaged and good sheets for a number of seconds.
 //!
-//!     fuzz SECONDS [SEED]
+//!     fuzz SECONDS [SEED [FILE]]
+//!     fuzz show NUMBER SEED          one input, in hex and in words
 //!
-//! The sheet lies in memory that can't be written, right before a page that can't be read; the
-//! answer room too ends where a page ends, so that a byte too far stops the program. Each answer
-//! is held to the independent panel's, and so is every byte of the room; values are held to what
-//! they mean. A call that isn't back within a minute is reported with its input.
+//! The sheet lies in memory that can't be written, and both sheet and answer room end where a page
+//! that can't be touched begins. So a read or write past the end of either, and any write to the
+//! sheet, stops the program; the file then has the number of the input, in eight bytes. Bytes
+//! before the room (back to its page's start) and past the record are compared afterwards. A read
+//! before the sheet or the room isn't noticed.
+//!
+//! Number, place and list are held to the independent panel's, and values to what they mean. A
+//! call that isn't back within a minute is reported with its input. It fails too if it tried
+//! nothing, or if in five seconds or more no sheet held, none clashed or none was refused.
 
 use second::random::families::FAMILIES;
 use second::random::sheet::state_length;
 use second::random::words::{hex, words};
 use second::random::Random;
+use second::sheet::ROOM;
 use second::{meaning, Panel};
 use std::ffi::c_void;
+use std::fs::OpenOptions;
 use std::os::raw::{c_char, c_int, c_long};
+use std::os::unix::io::AsRawFd;
 use std::process::exit;
 use std::sync::atomic::{AtomicU64, Ordering::Relaxed};
-use std::sync::Arc;
 use std::time::{Duration, Instant};
 use std::{env, ptr, slice, thread};
 
 const PAGE: usize = 4096;
 const UNTOUCHED: u8 = 0xAA;
 const PATIENCE: Duration = Duration::from_secs(60);
+/// From how many seconds on there must be answers of each kind.
+const LONG: u64 = 5;
 
 fn main() {
-    let mut args = env::args().skip(1).map(|arg| arg.parse::<u64>());
-    let (seconds, seed) = match (args.next(), args.next(), args.next()) {
-        (Some(Ok(seconds)), None, None) => (seconds, 1),
-        (Some(Ok(seconds)), Some(Ok(seed)), None) => (seconds, seed),
-        _ => {
-            eprintln!("usage: fuzz SECONDS [SEED]");
-            exit(2);
+    let args: Vec<String> = env::args().skip(1).collect();
+    let args: Vec<&str> = args.iter().map(String::as_str).collect();
+    let (seconds, seed, file) = match args[..] {
+        ["show", number, seed] => {
+            show(whole(seed), whole(number), "");
+            return;
         }
+        [seconds] => (whole(seconds), 1, None),
+        [seconds, seed] => (whole(seconds), whole(seed), None),
+        [seconds, seed, file] => (whole(seconds), whole(seed), Some(file)),
+        _ => usage(),
     };
-    let asked = Arc::new(AtomicU64::new(0));
-    watch(seed, Arc::clone(&asked));
+    let asked = kept(file);
+    watch(seed, asked);
     let start = Instant::now();
     let mut tried = Tried::new();
     let mut counts = [0u64; 3];
@@ -48,19 +61,55 @@ fn main() {
         match tried.judge(&sheet, room) {
             Ok(answer) => counts[answer.min(2)] += 1,
             Err(fault) => {
-                show(seed, number, &fault);
+                show(seed, number, &format!(": {fault}"));
                 exit(1);
             }
         }
     }
     let [holds, clashes, refused] = counts;
+    let all: u64 = counts.iter().sum();
+    // A run that shows little or nothing, whatever the panel.
+    if all == 0 || seconds >= LONG && counts.contains(&0) {
+        eprintln!(
+            "fuzz: too little was tried: {all} inputs, of which {holds} hold, {clashes} clash and \
+             {refused} are refused"
+        );
+        exit(1);
+    }
     println!(
-        "fuzz: {} inputs in {} s (seed {seed}): {holds} hold, {clashes} clash, {refused} refused; \
+        "fuzz: {all} inputs in {} s (seed {seed}): {holds} hold, {clashes} clash, {refused} refused; \
          none changes the sheet, writes past the record, is answered differently by the independent \
          panel, or fails to come back",
-        holds + clashes + refused,
         start.elapsed().as_secs()
     );
+}
+
+fn whole(arg: &str) -> u64 {
+    arg.parse().unwrap_or_else(|_| usage())
+}
+
+fn usage() -> ! {
+    eprintln!("usage: fuzz SECONDS [SEED [FILE]]\n       fuzz show NUMBER SEED");
+    exit(2);
+}
+
+/// Where the number of the input is kept: in the file, if one is given, so that it outlives a
+/// program that is stopped.
+fn kept(file: Option<&str>) -> &'static AtomicU64 {
+    let file = file.map(|path| {
+        let mut options = OpenOptions::new();
+        let file = options.read(true).write(true).create(true).open(path);
+        let file = file.unwrap_or_else(|error| panic!("{path}: {error}"));
+        file.set_len(8).expect("a file of eight bytes");
+        file
+    });
+    let (how, of) = match &file {
+        Some(file) => (SHARED, file.as_raw_fd()),
+        None => (PRIVATE | NO_FILE, -1),
+    };
+    // SAFETY: the page is fresh, stays mapped to the end of the program, and is referred to by
+    // nothing else; its first eight bytes are whole ones of the file, and any bytes are a number.
+    unsafe { &*map(ptr::null_mut(), PAGE, READ | WRITE, how, of).cast::<AtomicU64>() }
 }
 
 /// The bytes and the answer room of one input, always the same.
@@ -81,16 +130,18 @@ fn input(seed: u64, number: u64) -> (Vec<u8>, usize) {
         _ => {
             // A good head, and records of anything: most are refused late, and some are judged.
             let (t, l) = (1 + random.below(64), random.below(65));
-            sheet = (0..6 * (1 + t + l)).map(|_| random.below(256) as u8).collect();
+            sheet = (0..6 * (1 + t + l))
+                .map(|_| random.below(256) as u8)
+                .collect();
             sheet[2..6].copy_from_slice(&[1, t as u8, l as u8, 0]);
             state_length(&mut sheet);
             tame(&mut sheet, t, random);
         }
     }
     let room = match random.below(8) {
-        0 => random.below(520),
-        1 => 520 + random.below(600),
-        _ => 520,
+        0 => random.below(ROOM),
+        1 => ROOM + random.below(600),
+        _ => ROOM,
     };
     (sheet, room)
 }
@@ -116,10 +167,18 @@ fn tame(sheet: &mut [u8], t: usize, random: &mut Random) {
             continue;
         }
         if own < t {
-            let kind = if own == 0 { random.below(2) } else { random.below(5) };
+            let kind = if own == 0 {
+                random.below(2)
+            } else {
+                random.below(5)
+            };
             let used: [bool; 4] = [kind >= 3, kind >= 2, kind == 4, kind == 1 || kind == 2];
             record[0] = kind as u8;
-            record[1] = if used[0] { 7 + random.below(2) as u8 } else { 0 };
+            record[1] = if used[0] {
+                7 + random.below(2) as u8
+            } else {
+                0
+            };
             record[2] = if used[1] { random.below(own) as u8 } else { 0 };
             record[3] = if used[2] { random.below(own) as u8 } else { 0 };
             if !used[3] {
@@ -155,7 +214,9 @@ impl Tried {
             Tried {
                 written: map(ptr::null_mut(), PAGE, READ | WRITE, SHARED, file),
                 lent: before_a_wall(|at| map(at, PAGE, READ, SHARED | FIXED, file)),
-                room: before_a_wall(|at| map(at, PAGE, READ | WRITE, PRIVATE | FIXED | NO_FILE, -1)),
+                room: before_a_wall(|at| {
+                    map(at, PAGE, READ | WRITE, PRIVATE | FIXED | NO_FILE, -1)
+                }),
                 second: Panel::new(),
             }
         }
@@ -180,7 +241,9 @@ impl Tried {
         let answer = baruvkesh::judge(lent, room);
         let got = (answer.number(), answer.place() as u16);
         if got != right {
-            return Err(format!("answered {got:?}, where the independent panel has {right:?}"));
+            return Err(format!(
+                "answered {got:?}, where the independent panel has {right:?}"
+            ));
         }
         if lent != sheet {
             return Err("the sheet was changed".to_string());
@@ -193,7 +256,11 @@ impl Tried {
             return Err("bytes past the record were changed".to_string());
         }
         if got.0 == 1 && room[..end] != expected[..end] {
-            return Err(format!("listed {:?}, and not {:?}", &room[8..end], &expected[8..end]));
+            return Err(format!(
+                "listed {:?}, and not {:?}",
+                &room[8..end],
+                &expected[8..end]
+            ));
         }
         if got.0 == 0 {
             let d = i64::from(u16::from_be_bytes([room[4], room[5]]));
@@ -212,18 +279,18 @@ impl Tried {
 
 fn show(seed: u64, number: u64, fault: &str) {
     let (sheet, room) = input(seed, number);
-    println!("input {number} of seed {seed}, with a room of {room} bytes: {fault}");
+    println!("input {number} of seed {seed}, with a room of {room} bytes{fault}");
     for line in hex(&sheet).into_iter().chain(words(&sheet)) {
         println!("  {line}");
     }
 }
 
-fn watch(seed: u64, asked: Arc<AtomicU64>) {
+fn watch(seed: u64, asked: &'static AtomicU64) {
     thread::spawn(move || loop {
         let before = asked.load(Relaxed);
         thread::sleep(PATIENCE);
         if asked.load(Relaxed) == before {
-            show(seed, before, "no answer within a minute");
+            show(seed, before, ": no answer within a minute");
             exit(1);
         }
     });

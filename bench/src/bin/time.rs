@@ -8,11 +8,11 @@
 
 use second::random::sheet::{Kind, Sheet, Term, TermRecord};
 use second::random::Random;
+use second::sheet::ROOM;
 use second::Panel;
 use std::time::{Duration, Instant};
 
 const SIZES: [usize; 3] = [16, 32, 64];
-const ROOM: usize = 520;
 
 fn main() {
     let smt = std::env::args().nth(1).as_deref() == Some("smt");
@@ -177,50 +177,83 @@ fn list(sheet: &[u8], holds: bool, name: &str) -> Vec<u8> {
 fn time(name: &str, sheet: &[u8]) {
     let mut second = Panel::new();
     let mut room = [0; ROOM];
-    let mut independent = || {
-        second.judge(sheet, &mut room);
-    };
-    let (ours, theirs) = side_by_side(proved(sheet), &mut independent);
+    let right = second.judge(sheet, &mut room);
+    compare(name, sheet, right, &room);
+    let independent = || second.judge(sheet, &mut room).1;
+    let (ours, theirs) = side_by_side(proved(sheet), independent, right.1);
     let ours = ours.map_or("-".to_string(), |nanoseconds| nanoseconds.to_string());
     println!("{name}\t{ours}\t{theirs}");
 }
 
+/// Stops where the proved panel says something else than the independent one, with this number,
+/// place and room: times of different answers couldn't be compared. Values are free, so of those
+/// only the length is held to the other's.
 #[cfg(feature = "panel")]
-fn proved(sheet: &[u8]) -> Option<impl FnMut() + '_> {
-    let mut room = [0; ROOM];
-    Some(move || {
-        baruvkesh::judge(sheet, &mut room);
-    })
+fn compare(name: &str, sheet: &[u8], right: (u8, u16), room: &[u8]) {
+    let mut own_room = [0; ROOM];
+    let answer = baruvkesh::judge(sheet, &mut own_room);
+    let got = (answer.number(), answer.place() as u16);
+    if got != right {
+        eprintln!("{name}: answered {got:?}, where the independent panel has {right:?}");
+        std::process::exit(1);
+    }
+    let record = ..usize::from(right.1);
+    if right.0 == 1 && own_room[record] != room[record] {
+        let (own, other) = (&own_room[record], &room[record]);
+        eprintln!("{name}: the record is {own:?}, where the independent panel has {other:?}");
+        std::process::exit(1);
+    }
 }
 
 #[cfg(not(feature = "panel"))]
-fn proved(_: &[u8]) -> Option<fn()> {
+fn compare(_: &str, _: &[u8], _: (u8, u16), _: &[u8]) {}
+
+/// Calls of the proved panel, each of which gives the place.
+#[cfg(feature = "panel")]
+fn proved(sheet: &[u8]) -> Option<impl FnMut() -> u16 + '_> {
+    let mut room = [0; ROOM];
+    Some(move || baruvkesh::judge(sheet, &mut room).place() as u16)
+}
+
+#[cfg(not(feature = "panel"))]
+fn proved(_: &[u8]) -> Option<fn() -> u16> {
     None
 }
 
 /// The least time of a call over many turns, which go from one side to the other.
-fn side_by_side(mut ours: Option<impl FnMut()>, theirs: &mut dyn FnMut()) -> (Option<u64>, u64) {
+fn side_by_side(
+    mut ours: Option<impl FnMut() -> u16>,
+    mut theirs: impl FnMut() -> u16,
+    place: u16,
+) -> (Option<u64>, u64) {
     let (mut our_least, mut their_least) = (u64::MAX, u64::MAX);
     for _ in 0..15 {
         if let Some(ours) = &mut ours {
-            our_least = our_least.min(per_call(ours));
+            our_least = our_least.min(per_call(ours, place));
         }
-        their_least = their_least.min(per_call(theirs));
+        their_least = their_least.min(per_call(&mut theirs, place));
     }
     (ours.map(|_| our_least), their_least)
 }
 
-/// Nanoseconds of a call, over as many as take a few milliseconds.
-fn per_call(call: &mut dyn FnMut()) -> u64 {
+/// Nanoseconds of a call, over as many as take a few milliseconds. The places are added up and
+/// checked, so that no call can be left out.
+fn per_call(call: &mut dyn FnMut() -> u16, place: u16) -> u64 {
     let start = Instant::now();
-    let mut calls = 0;
+    let (mut calls, mut places) = (0, 0);
     while start.elapsed() < Duration::from_millis(4) {
         for _ in 0..16 {
-            call();
+            places += u64::from(call());
         }
         calls += 16;
     }
-    (start.elapsed().as_nanos() / calls) as u64
+    let time = start.elapsed();
+    assert_eq!(
+        places,
+        calls * u64::from(place),
+        "a call answered differently"
+    );
+    time.as_nanos() as u64 / calls
 }
 
 /// The sheet for an SMT solver, in SMT-LIB 2: the question for all entries, and for a list the one

@@ -93,9 +93,8 @@ pub const FAMILIES: [Family; 14] = [
 #[cfg(test)]
 mod tests {
     use super::*;
-    use crate::{sheet, Panel};
-
-    const ROOM: usize = 520;
+    use crate::sheet::{refusal, ROOM};
+    use crate::Panel;
 
     fn named(name: &str) -> &'static Family {
         FAMILIES
@@ -136,7 +135,7 @@ mod tests {
         for family in &FAMILIES[12..] {
             let sheets: Vec<Vec<u8>> = (0..1000).map(|number| family.sheet(5, number)).collect();
             assert!(sheets.iter().all(|sheet| sheet.len() <= 4096));
-            let refusals = sheets.iter().map(|sheet| sheet::refusal(sheet, ROOM));
+            let refusals = sheets.iter().map(|sheet| refusal(sheet, ROOM));
             let numbers: Vec<u8> = refusals
                 .map(|refusal| refusal.map_or(0, |(number, _)| number))
                 .collect();

@@ -491,7 +491,7 @@ pub fn mix(random: &mut Random) -> Sheet {
 
 /// Any terms, with few numbers, few symbols and few arguments, so that they meet. Any entries: made
 /// with no plan, or around some levels, or tying arguments and parting functions.
-fn any(random: &mut Random, terms: usize, entries: usize) -> Sheet {
+pub fn any(random: &mut Random, terms: usize, entries: usize) -> Sheet {
     let mut sheet = Sheet::new();
     let mut arguments = vec![sheet.unknown()];
     for i in 1..terms {

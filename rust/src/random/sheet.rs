@@ -204,6 +204,7 @@ pub fn state_length(bytes: &mut [u8]) {
 mod tests {
     use super::*;
     use crate::random::judged::{mix, rounds};
+    use crate::sheet::ROOM;
 
     #[test]
     fn sheet_1_byte_by_byte() {
@@ -227,7 +228,7 @@ mod tests {
     #[test]
     fn another_order_has_the_same_verdict() {
         let mut panel = crate::Panel::new();
-        let mut verdict = |sheet: &Sheet| panel.judge(&sheet.bytes(), &mut [0; 520]).0;
+        let mut verdict = |sheet: &Sheet| panel.judge(&sheet.bytes(), &mut [0; ROOM]).0;
         let random = &mut Random::of(1, "order", 0);
         for _ in 0..300 {
             for sheet in [mix(random), rounds(random, 4)] {

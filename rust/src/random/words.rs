@@ -42,7 +42,7 @@ fn term(own: usize, record: &[u8]) -> String {
     match *record {
         [0, 0, 0, 0, 0, 0] => format!("t{own} unknown"),
         [1, 0, 0, 0, _, _] => format!("t{own} = {}", c(record)),
-        [2, 0, a, 0, _, _] if below(a) => format!("t{own} = t{a}{}", plus(record)),
+        [2, 0, a, 0, _, _] if below(a) => format!("t{own} = {}", shifted(a, c(record))),
         [3, symbol, a, 0, 0, 0] if below(a) => format!("t{own} = f{symbol}(t{a})"),
         [4, symbol, a, b, 0, 0] if below(a) && below(b) => {
             format!("t{own} = f{symbol}(t{a}, t{b})")
@@ -55,7 +55,7 @@ fn entry(own: usize, record: &[u8], t: u8) -> String {
     match *record {
         [kind, 0, a, b, _, _] if kind < 4 && a < t && b < t => {
             let sign = ["=", "≠", "≤", "<"][usize::from(kind)];
-            format!("{own}: t{a} {sign} t{b}{}", plus(record))
+            format!("{own}: t{a} {sign} {}", shifted(b, c(record)))
         }
         _ => format!("{own}: not an entry"),
     }
@@ -65,12 +65,12 @@ fn c(record: &[u8]) -> i16 {
     i16::from_be_bytes([record[4], record[5]])
 }
 
-/// "plus c" behind a term.
-fn plus(record: &[u8]) -> String {
-    match c(record) {
-        0 => String::new(),
-        c if c < 0 => format!(" - {}", -i32::from(c)),
-        c => format!(" + {c}"),
+/// A term plus c, as "t5 - 1".
+pub fn shifted(term: u8, c: i16) -> String {
+    match i32::from(c) {
+        0 => format!("t{term}"),
+        c if c < 0 => format!("t{term} - {}", -c),
+        c => format!("t{term} + {c}"),
     }
 }
 

@@ -1,6 +1,6 @@
 //! The recipes for sheets that are sent back, and for those that only just aren't.
 
-use super::judged::mix;
+use super::judged::{any, mix};
 use super::sheet::{state_length, LIMIT};
 use super::Random;
 
@@ -12,14 +12,20 @@ pub fn fields(random: &mut Random) -> Vec<u8> {
     if random.one_in(8) {
         return sizes(random);
     }
-    let sheet = mix(random);
+    // A panel may go wrong in late records only, so some sheets have many.
+    let sheet = if random.one_in(3) {
+        let [terms, entries] = [(); 2].map(|_| random.pick(&[LIMIT, LIMIT, LIMIT - 1, LIMIT / 2]));
+        any(random, terms, entries)
+    } else {
+        mix(random)
+    };
     let (terms, entries) = (sheet.terms.len(), sheet.entries.len());
     let mut bytes = sheet.bytes();
     for _ in 0..random.pick(&[1, 1, 1, 2, 2, 3]) {
         match random.below(8) {
             0 => head_field(random, &mut bytes),
             1 => one_counted_among_the_others(random, &mut bytes),
-            2 | 3 if entries > 0 => {
+            2..=4 if entries > 0 => {
                 let at = SIX + SIX * (terms + random.below(entries));
                 field(random, &mut bytes[at..at + SIX], terms as u8);
             }
@@ -112,4 +118,21 @@ pub fn bytes(random: &mut Random) -> Vec<u8> {
         state_length(&mut bytes);
     }
     bytes
+}
+
+#[cfg(test)]
+mod tests {
+    use super::*;
+    use crate::sheet::{refusal, ROOM};
+
+    #[test]
+    fn late_records_are_wrong_too() {
+        let refusals: Vec<(u8, u16)> = (0..600)
+            .filter_map(|number| refusal(&fields(&mut Random::of(5, "fields", number)), ROOM))
+            .collect();
+        for wrong in [13, 14] {
+            let late = |&(number, place): &(u8, u16)| number == wrong && place > 40;
+            assert!(refusals.iter().any(late), "no late {wrong}");
+        }
+    }
 }

@@ -170,11 +170,11 @@ fn each_rule_that_values_break_is_named() {
     breaks(2, [9, 10, 13, 0, 1, 7, 1 << 40], "");
     breaks(2, [9, 10, 13, 0, 1, 7, (1 << 40) + 1], "term 6: n is");
     breaks(2, [9, 11, 13, 0, 1, 7, 8], "term 1: the number 5");
-    breaks(2, [9, 10, 14, 0, 1, 7, 8], "term 2: x0 + 2 has");
+    breaks(2, [9, 10, 14, 0, 1, 7, 8], "term 2: t0 + 2 has");
     breaks(2, [10, 10, 14, 3, 4, 7, 7], "terms 3 and 4");
     breaks(2, [10, 10, 14, 3, 3, 7, 8], "terms 5 and 6");
-    breaks(2, [5, 10, 9, 0, 1, 7, 8], "entry 2: x1 ≤ x2 - 1 is");
-    breaks(2, [9, 10, 13, 3, 1, 7, 8], "entry 3: x3 < x4 + 1 is");
+    breaks(2, [5, 10, 9, 0, 1, 7, 8], "entry 2: t1 ≤ t2 - 1 is");
+    breaks(2, [9, 10, 13, 3, 1, 7, 8], "entry 3: t3 < t4 + 1 is");
     assert_eq!(
         broken(&bytes, 2, &[0; 6]),
         Some(String::from("6 values for 7 terms"))
@@ -183,11 +183,11 @@ fn each_rule_that_values_break_is_named() {
     assert_eq!(broken(&apart, 2, &[6, 0]), None);
     assert!(broken(&apart, 2, &[7, 0])
         .unwrap()
-        .starts_with("entry 0: x0 = x1 + 3 is"));
+        .starts_with("entry 0: t0 = t1 + 3 is"));
     let same = sheet(&[UNKNOWN], &[(1, 0, 0, 0, 0)]);
     assert!(broken(&same, 1, &[1])
         .unwrap()
-        .starts_with("entry 0: x0 ≠ x0 is"));
+        .starts_with("entry 0: t0 ≠ t0 is"));
 }
 
 #[test]

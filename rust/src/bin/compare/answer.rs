@@ -2,10 +2,9 @@
 //! free, so they are held to the meaning; all else is held to the tables and to the independent
 //! panel, byte for byte.
 
+use second::sheet::ROOM;
 use second::{meaning, Panel};
 
-/// The bytes of an answer room that is enough for every sheet.
-const ROOM: usize = 520;
 /// What the room is filled with before each call.
 const FILL: u8 = 0xAA;
 /// The bytes of an answer in its frame: number, place, room.

@@ -7,7 +7,7 @@ pub const USAGE: &str = "\
 compare [--seed N] [--sheets N] [--family NAME [--number N]] [--] COMMAND ARGS..
     compares the command's answers to random sheets with the independent panel's
       --seed N       another seed makes other sheets; 1 if not given
-      --sheets N     sheets in all, spread evenly over the families; 4000 if not given
+      --sheets N     sheets in all, at least 1, spread evenly over the families; 4000 if not given
       --family NAME  sheets of this family only
       --number N     this one sheet of the family only
 compare --families
@@ -52,8 +52,11 @@ impl Ask {
                 }
             }
         }
+        // A comparison of no sheets would pass any panel.
+        let no_sheets = ask.count() == 0;
         let number_of_no_family = ask.number.is_some() && ask.family.is_none();
-        (!ask.command.is_empty() && !number_of_no_family).then_some(ask)
+        let wrong = ask.command.is_empty() || no_sheets || number_of_no_family;
+        (!wrong).then_some(ask)
     }
 
     pub fn count(&self) -> u64 {
@@ -127,6 +130,7 @@ mod tests {
         for call in [
             "",
             "--seed x panel",
+            "--sheets 0 panel",
             "--family none panel",
             "--number 3 panel",
             "--what",

@@ -37,7 +37,7 @@ fn main() -> ExitCode {
         }
     };
     match Tested::start(&ask.command, ask.sheets()) {
-        Ok(tested) => ExitCode::from(compare(ask, &tested)),
+        Ok(tested) => ExitCode::from(compare(ask, tested)),
         Err(error) => {
             eprintln!("{} can't be started: {error}", ask.command[0]);
             ExitCode::from(2)
@@ -46,9 +46,21 @@ fn main() -> ExitCode {
 }
 
 /// Compares answer by answer until the sheets end or the answers do, and gives the status.
-fn compare(ask: Ask, tested: &Tested) -> u8 {
-    let mut panel = Panel::new();
+fn compare(ask: Ask, tested: Tested) -> u8 {
     let mut report = Report::new(ask);
+    let ended = match silence(&tested, &mut report) {
+        Some(Silence::Ended(_)) => tested.end(),
+        _ => Ok(()),
+    };
+    if let Err(fault) = ended {
+        report.bad_end(&fault);
+    }
+    report.close()
+}
+
+/// Compares and reports, and gives what there is in the end instead of an answer.
+fn silence(tested: &Tested, report: &mut Report) -> Option<Silence> {
+    let mut panel = Panel::new();
     while let Some(sent) = tested.sent() {
         let expected = Answer::expected(&mut panel, &sent.sheet);
         report.count(&sent, &expected);
@@ -61,14 +73,15 @@ fn compare(ask: Ask, tested: &Tested) -> u8 {
             }
             Err(silence) => {
                 report.difference(&sent, &expected, &silence.to_string(), &[]);
-                return report.close();
+                return Some(silence);
             }
         }
     }
-    match tested.hear() {
-        Err(Silence::Ended(0)) => {}
-        Err(Silence::Late) => report.bad_end("the panel doesn't end at the end of its input"),
+    let last = tested.hear().err();
+    match last {
+        Some(Silence::Ended(0)) => {}
+        Some(Silence::Late) => report.bad_end("the panel doesn't end at the end of its input"),
         _ => report.bad_end("the panel answers more than it was asked"),
     }
-    report.close()
+    last
 }

@@ -7,11 +7,11 @@ use std::io::{self, Read, Write};
 use std::process::{Child, ChildStdin, ChildStdout, Command, Stdio};
 use std::sync::mpsc::{sync_channel, Receiver, SyncSender};
 use std::thread;
-use std::time::Duration;
+use std::time::{Duration, Instant};
 
 /// How many sheets may be on their way: enough for a command that gathers its answers in a buffer.
 const AHEAD: usize = 1024;
-/// How long an answer may take.
+/// How long an answer may take, and the end behind the last one.
 const PATIENCE: Duration = Duration::from_secs(60);
 
 /// What there is instead of an answer.
@@ -41,7 +41,7 @@ pub struct Sent {
 }
 
 pub struct Tested {
-    command: Child,
+    command: Running,
     sent: Receiver<Sent>,
     heard: Receiver<Heard>,
 }
@@ -64,7 +64,7 @@ impl Tested {
         thread::spawn(move || write(input, sheets, send));
         thread::spawn(move || read(output, hear));
         Ok(Tested {
-            command,
+            command: Running(command),
             sent,
             heard,
         })
@@ -80,13 +80,40 @@ impl Tested {
             .recv_timeout(PATIENCE)
             .unwrap_or(Err(Silence::Late))
     }
+
+    /// Waits for the command, whose output has ended; or what is wrong with its end. A panel that
+    /// fails behind its last answer fails.
+    pub fn end(self) -> Result<(), String> {
+        let Tested {
+            mut command, sent, ..
+        } = self;
+        // So that no more is written, and the command's input ends too.
+        drop(sent);
+        let start = Instant::now();
+        while start.elapsed() < PATIENCE {
+            let ended = command.0.try_wait();
+            match ended.map_err(|error| format!("the panel can't be waited for: {error}"))? {
+                Some(status) if status.success() => return Ok(()),
+                Some(status) => {
+                    return Err(match status.code() {
+                        Some(code) => format!("the panel ended with status {code}"),
+                        None => format!("the panel was ended by a signal ({status})"),
+                    })
+                }
+                None => thread::sleep(Duration::from_millis(5)),
+            }
+        }
+        Err("the panel doesn't end at the end of its output".to_string())
+    }
 }
 
-impl Drop for Tested {
+struct Running(Child);
+
+impl Drop for Running {
     /// Ends a command that hasn't ended by itself.
     fn drop(&mut self) {
-        let _ = self.command.kill();
-        let _ = self.command.wait();
+        let _ = self.0.kill();
+        let _ = self.0.wait();
     }
 }
 
