@@ -1,4 +1,3 @@
 pub mod Tells
 pub mod Read
-pub mod Heads
-pub mod Fill
+pub mod Values

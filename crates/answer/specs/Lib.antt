@@ -1,3 +1,2 @@
 pub mod Record
-pub mod Head
 pub mod Levels

@@ -7,6 +7,16 @@ use lib.ListN.{length, getD}
 use Rattle.whole.specs.Whole.{plus, minus}
 use Rattle.big.specs.Big.{bytesOf, complementOf}
 use Rattle.sheet.specs.Limits.{maxTerms, maxEntries}
+use Rattle.sheet.specs.Decode.{each}
+use Rattle.sheet.specs.Sheet.{Sheet, countTerms}
+
+-- the bytes that both records begin with
+abbrev pub headLength : ℕ
+headLength = 8
+
+-- one n per term, as a list
+abbrev pub listed : Sheet → (ℕ → ℤ) → List ℤ
+listed s n = each (countTerms s) n
 
 -- T signed values n, two's complement, 8 bytes each
 unfoldable pub valuesOf : List ℤ → List ℕ

@@ -1,7 +1,7 @@
 // The call for other languages: a static library with one function of C's calling convention.
 // It is the panel's `judge` with its answer in one number, and promises what that promises.
 ghost use Prim.Native.Nat.{_/_, _%_};
-ghost use Rattle.panel.specs.Answered.{Answered};
+ghost use Rattle.promise.specs.Answered.{Answered};
 
 // The answer's number × 65,536 plus its place.
 #[no_mangle]

@@ -8,7 +8,7 @@ use lib.Seq.{length-take-le, getD-append-add, getD-drop, getD-set-same, getD-set
 use native.Mathlib.Omega.{arith}
 use Rattle.big.specs.Big.{bigOf, Kept}
 use Rattle.sheet.specs.Limits.{roomNeeded}
-use Rattle.panel.specs.Answered.{Answered}
+use Rattle.promise.specs.Answered.{Answered}
 use Rattle.batch.specs.Reply.{Reply}
 
 -- a room put back behind the first bytes

@@ -5,7 +5,7 @@ use mathlib.Core.List.{List}
 use lib.ListN.{getD, drop, replicate}
 use Rattle.big.specs.Big.{bigOf}
 use Rattle.sheet.specs.Limits.{roomNeeded}
-use Rattle.panel.specs.Answered.{Answered}
+use Rattle.promise.specs.Answered.{Answered}
 
 -- before it is answered
 abbrev pub blank : List ℕ

@@ -1,14 +1,12 @@
 -- The list that is written is the first that clashes, and the bytes are its record.
 -- Assumes nothing.
-use Prim.Native.Nat.{ℕ, _+_, _≤_, _<_}
-use mathlib.Core.Path.{_≡_, sym, ap, _∙_}
+use Prim.Native.Nat.{ℕ, _<_}
+use mathlib.Core.Path.{_≡_}
 use mathlib.Core.Bool.{true, false}
 use mathlib.Core.List.{List}
-use lib.ListN.{length, getD, take, drop, replicate, getD-replicate, length-take, length-drop}
-use lib.Seq.{getD-take, getD-drop}
+use lib.ListN.{length, replicate, getD-replicate}
 use native.Mathlib.Omega.{arith}
-use Rattle.big.specs.Big.{Bytes, Kept}
-use Rattle.order.specs.First.{Set, marked, number, Listed}
+use Rattle.order.specs.First.{Set, marked, number}
 use Rattle.order.proofs.Laws.{first-agree}
 use Rattle.order.proofs.Lists.{listed-agrees}
 use Rattle.sheet.specs.Limits.{maxEntries}
@@ -16,52 +14,22 @@ use Rattle.sheet.specs.Sheet.{Sheet, countEntries, WellFormed}
 use Rattle.meaning.specs.Meaning.{Clashes, FirstClash}
 use Rattle.meaning.proofs.Meaning.{clashes-upward}
 use Rattle.meaning.proofs.Empty.{clash-some}
-use Rattle.answer.specs.Head.{Headed}
-use Rattle.answer.proofs.Read.{clashes-read}
+use Rattle.listing.specs.Named.{Named}
 use Rattle.blame.specs.Blamed.{Blamed}
 
 pub all-marked : {s : Sheet} → WellFormed s → (x : ℕ) → x < countEntries s → marked (replicate maxEntries true) x ≡ true
 all-marked wf x l = getD-replicate maxEntries x true false (omega (arith, wf .entries))
 
-module _ (s : Sheet) (wf : WellFormed s) (A : Set) (first : FirstClash s A) (old mid new : List ℕ) (k : ℕ) (size : 8 + k ≤ length new)
-    (listed : Listed (countEntries s) A (drop 8 mid) k) (kept : Kept old mid 8 k) (head : Headed mid new (8 + k) 1 k) where
-  list : List ℕ
-  list = take k (drop 8 new)
-
-  list-length : length list ≡ k
-  unfolding list
-  list-length = simp (length-take, length-drop) (omega arith)
-
-  list-at : (i : ℕ) → i < k → getD list i 0 ≡ getD new (8 + i) 0
-  unfolding list
-  list-at i h = getD-take k (drop 8 new) i 0 h ∙ getD-drop 8 new i 0
-
-  list-is : (i : ℕ) → i < k → getD list i 0 ≡ getD (drop 8 mid) i 0
-  list-is i h = list-at i h ∙ head .kept .after (8 + i) (omega arith) ∙ sym (getD-drop 8 mid i 0)
-
-  within : (i : ℕ) → i < length list → i < k
-  within i h = omega (arith, list-length)
-
-  own : Listed (countEntries s) A list (length list)
-  own = record {
-    entry = λ i h. omega (arith, listed .entry i (within i h), list-is i (within i h));
-    one = λ i h. rw (list-is i (within i h)) (listed .one i (within i h));
-    rising = λ i j h l. omega (arith, listed .rising i j h (within j l), list-is i (within i (omega arith)), list-is j (within j l));
-    all = λ x l e. let (i, h, q) = listed .all x l e in (i, omega (arith, list-length), list-is i h ∙ q);
-  }
-
-  pub blamed : Bytes new → Blamed s old new (8 + k)
-  blamed B = record {
-    list = list;
-    first = first-agree (countEntries s) number (Clashes s) (clashes-upward s) A _ (listed-agrees (countEntries s) A list own) first;
-    within = record {
-      some = clash-some s wf A list (length list) (first .has) own;
-      entry = own .entry;
-      rising = own .rising;
-    };
-    size-is = omega (arith, list-length);
-    bytes = ap (λ (x : ℕ). take (8 + x) new) (sym list-length) ∙ clashes-read new B list (omega (arith, list-length))
-        (head .size-is ∙ omega (arith, list-length)) (head .one-is) (head .verdict-is) (head .count-is ∙ sym list-length) (head .zero-is)
-        (λ i h. sym (list-at i (within i h)));
-    kept = λ i l. head .kept .after i (omega arith) ∙ kept .after i l;
-  }
+pub blamed : {s : Sheet} {A : Set} {old new : List ℕ} {size : ℕ} → WellFormed s → FirstClash s A → Named (countEntries s) A old new size → Blamed s old new size
+blamed {s} {A} wf first n = record {
+  list = n .list;
+  first = first-agree (countEntries s) number (Clashes s) (clashes-upward s) A _ (listed-agrees (countEntries s) A (n .list) (n .listed)) first;
+  within = record {
+    some = clash-some s wf A (n .list) (length (n .list)) (first .has) (n .listed);
+    entry = n .listed .entry;
+    rising = n .listed .rising;
+  };
+  size-is = n .size-is;
+  bytes = n .bytes;
+  kept = n .kept;
+}

@@ -4,30 +4,28 @@
 ghost use mathlib.Core.Path.{_≡_};
 ghost use mathlib.Core.Bool.{true};
 ghost use Prim.Native.Nat.{ℕ, _+_, _≤_, _<_};
-ghost use lib.ListN.{length, drop};
-ghost use Rattle.big.specs.Big.{Kept};
-ghost use Rattle.table.specs.Cells.{cells, Kept as CellsKept};
-ghost use Rattle.order.specs.First.{every, marked, Listed};
+ghost use lib.ListN.{length};
+ghost use Rattle.cells.specs.Cells.{cells, Kept};
+ghost use Rattle.order.specs.First.{every, marked};
 ghost use Rattle.sheet.specs.Decode.{Sized, sheetOf};
 ghost use Rattle.sheet.specs.Sheet.{WellFormed, countEntries};
 ghost use Rattle.meaning.specs.Meaning.{Clashes, FirstClash};
 ghost use Rattle.meaning.specs.Decides.{Decides};
-ghost use Rattle.values.specs.Settled.{points};
+ghost use Rattle.answer.specs.Record.{headLength};
+ghost use Rattle.settled.specs.Settled.{points};
 ghost use Rattle.blame.specs.Blamed.{Blamed};
 use verdict::Verdict;
 
 // Writes the first clashing list as the answer record, and answers its length.
 pub fn write(sheet: &[u8], room: &mut [u8]) -> usize
     requires { ⌜ Sized (now sheet) × WellFormed (sheetOf (now sheet)) ⌝ }
-    requires { ⌜ Clashes (sheetOf (now sheet)) every × (8 + countEntries (sheetOf (now sheet)) ≤ length (now room)) ⌝ }
+    requires { ⌜ Clashes (sheetOf (now sheet)) every × (headLength + countEntries (sheetOf (now sheet)) ≤ length (now room)) ⌝ }
     ensures { λ r. ⌜ Blamed (sheetOf (now (sheet .entry))) (now (room .entry)) (now (room .exit)) r ⌝ }
 {
-    let entries = sheet::count_entries(sheet);
+    let entries = reading::count_entries(sheet);
     let mut marks = [true; sheet::MAX_ENTRIES];
     leave_out(sheet, &mut marks);
-    let k = list(&marks, entries, room);
-    answer::head(room, 8 + k, 1, k as u64);
-    8 + k
+    listing::clashes(room, &marks, entries)
 }
 
 // With every entry marked, takes away the marks of those that aren't needed.
@@ -37,7 +35,7 @@ fn leave_out(sheet: &[u8], marks: &mut [bool])
     ensures { λ _. ⌜ FirstClash (sheetOf (now (sheet .entry))) (marked (now (marks .exit))) ⌝ }
 {
     let mut d = [0u32; table::CELLS];
-    let mut r = sheet::count_entries(sheet);
+    let mut r = reading::count_entries(sheet);
     while 0 < r {
         r -= 1;
         marks[r] = false;
@@ -47,38 +45,19 @@ fn leave_out(sheet: &[u8], marks: &mut [bool])
     }
 }
 
-// Whether the marked entries clash. Values that meet them are quicker to find than the table is made.
-fn clashes(sheet: &[u8], marks: &[bool], d: &mut [u32]) -> bool
+// Whether the entries that the set marks clash. Values that meet them are quicker to find than the table is made.
+fn clashes(sheet: &[u8], set: &[bool], d: &mut [u32]) -> bool
     requires { ⌜ Sized (now sheet) × WellFormed (sheetOf (now sheet)) ⌝ }
-    requires { ⌜ (countEntries (sheetOf (now sheet)) ≤ length (now marks)) × (length (now d) ≡ cells) ⌝ }
-    ensures decides { λ r. ⌜ Decides (Clashes (sheetOf (now (sheet .entry))) (marked (now (marks .entry)))) r ⌝ }
-    ensures kept { λ _. ⌜ CellsKept (points (sheetOf (now (sheet .entry)))) (now (d .entry)) (now (d .exit)) ⌝ }
+    requires { ⌜ (countEntries (sheetOf (now sheet)) ≤ length (now set)) × (length (now d) ≡ cells) ⌝ }
+    ensures decides { λ r. ⌜ Decides (Clashes (sheetOf (now (sheet .entry))) (marked (now (set .entry)))) r ⌝ }
+    ensures kept { λ _. ⌜ Kept (points (sheetOf (now (sheet .entry)))) (now (d .entry)) (now (d .exit)) ⌝ }
 {
     let mut v = [0u64; guess::PLACES];
-    if guess::values(sheet, marks, &mut v) {
+    if guess::values(sheet, set, &mut v) {
         return false;
     }
-    match verdict::on(sheet, marks, d) {
+    match verdict::on(sheet, set, d) {
         Verdict::Holds => false,
         Verdict::Clashes => true,
     }
-}
-
-// Writes the numbers of the marked entries below n from byte 8 of the room on, rising, and answers how many there are.
-fn list(marks: &[bool], n: usize, room: &mut [u8]) -> usize
-    requires { ⌜ (n ≤ length (now marks)) × (8 + n ≤ length (now room)) × (n ≤ 256) ⌝ }
-    ensures few { λ r. ⌜ r ≤ n ⌝ }
-    ensures listed { λ r. ⌜ Listed n (marked (now (marks .entry))) (drop 8 (now (room .exit))) r ⌝ }
-    ensures kept { λ r. ⌜ Kept (now (room .entry)) (now (room .exit)) 8 r ⌝ }
-{
-    let mut k = 0;
-    let mut x = 0;
-    while x < n {
-        if marks[x] {
-            room[8 + k] = x as u8;
-            k += 1;
-        }
-        x += 1;
-    }
-    k
 }

@@ -3,8 +3,8 @@
 use Prim.Native.Nat.{ℕ, _+_, _≤_, _<_}
 use mathlib.Core.Path.{_≡_}
 use native.Mathlib.Omega.{arith}
-use Rattle.gap.specs.Code.{none, sumOf, Within}
-use Rattle.gap.proofs.Codes.{sum-within, sum-mono, sum-comm, sum-zero, zero-sum}
+use Rattle.kind.specs.Code.{none, sumOf, Within}
+use Rattle.kind.proofs.Codes.{sum-within, sum-mono, sum-comm, sum-zero, zero-sum}
 use Rattle.closure.specs.Closed.{Closed, RelaxedBy}
 use Rattle.closure.specs.Table.{step}
 

@@ -7,12 +7,12 @@ use lib.IntN.{ℤ, pos, _+ℤ_}
 use native.Mathlib.Omega.{arith}
 use Rattle.whole.specs.Whole.{plus, minus}
 use Rattle.whole.proofs.Parts.{add-parts, parts-inj, sub-parts}
-use Rattle.gap.specs.Code.{none, base, half}
-use Rattle.gap.specs.Meets.{wholeOf}
-use Rattle.gap.specs.Kind.{Kind, noGap, weak, strict, zeroGap, added, kindOf}
-use Rattle.gap.proofs.Codes.{there, code-is}
-use Rattle.gap.proofs.Flat.{parity}
-use Rattle.gap.proofs.Kind.{kind-none, kind-weak, kind-strict}
+use Rattle.kind.specs.Code.{none, base, half}
+use Rattle.kind.specs.Meets.{wholeOf}
+use Rattle.kind.specs.Kind.{Kind, noGap, weak, strict, zeroGap, added, kindOf}
+use Rattle.kind.proofs.Codes.{there, code-is}
+use Rattle.kind.proofs.Flat.{parity}
+use Rattle.kind.proofs.Kind.{kind-none, kind-weak, kind-strict}
 use Rattle.closure.specs.Walk.{Tight}
 
 -- a gap that is there, by its mark and its number: what holds of weak and strict ones is then said once

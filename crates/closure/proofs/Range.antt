@@ -6,9 +6,9 @@ use lib.IntN.{ℤ, pos, negsuc}
 use native.Mathlib.Omega.{arith}
 use Rattle.whole.specs.Whole.{plus, minus}
 use Rattle.whole.proofs.Parts.{add-parts}
-use Rattle.gap.specs.Code.{none, Within}
-use Rattle.gap.specs.Kind.{Kind, added, kindOf}
-use Rattle.gap.proofs.Codes.{there}
+use Rattle.kind.specs.Code.{none, Within}
+use Rattle.kind.specs.Kind.{Kind, added, kindOf}
+use Rattle.kind.proofs.Codes.{there}
 use Rattle.closure.specs.Walk.{Tight, Near}
 use Rattle.closure.proofs.Order.{Is, Seen, seen, mark, line, both, of-code, halved}
 use Rattle.closure.proofs.Order.Is.{plain, under}

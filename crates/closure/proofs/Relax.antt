@@ -3,7 +3,7 @@
 use Prim.Native.Nat.{ℕ, _<_}
 use mathlib.Core.Path.{_≡_, sym, _∙_, ap}
 use mathlib.Core.Logic.{_⊎_, ⊎-elim}
-use Rattle.gap.specs.Kind.{Kind, zeroGap, added}
+use Rattle.kind.specs.Kind.{Kind, zeroGap, added}
 use Rattle.closure.specs.Walk.{Tight}
 use Rattle.closure.proofs.Order.{tight-refl, tight-trans, tight-same, added-comm, added-assoc, added-mono, grow}
 

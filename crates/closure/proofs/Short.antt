@@ -5,8 +5,8 @@ use mathlib.Core.Path.{_≡_}
 use mathlib.Core.List.{List, List·Memᴰ as In, List·Memᴰ·head as here, List·Memᴰ·tail as later, List·Memᴰ·not-nil as not-nil}
 use lib.ListN.{length}
 use native.Mathlib.Omega.{arith}
-use Rattle.gap.specs.Code.{none, Within}
-use Rattle.gap.specs.Kind.{Kind, zeroGap, added, kindOf}
+use Rattle.kind.specs.Code.{none, Within}
+use Rattle.kind.specs.Kind.{Kind, zeroGap, added, kindOf}
 use Rattle.closure.specs.Walk.{Tight, Near, Walk, Reached}
 use Rattle.closure.specs.Walk.Walk.{stop, step}
 use Rattle.closure.specs.Table.{reach, Held}

@@ -6,10 +6,10 @@ use mathlib.Core.Logic.{_⊎_, inl, inr, ⊎-elim}
 use native.Mathlib.Decide.{ℕ-discrete}
 use native.Mathlib.Omega.{arith}
 use Rattle.whole.proofs.Order.{order}
-use Rattle.gap.specs.Code.{none, base, half, sumOf, Within}
-use Rattle.gap.specs.Kind.{Kind, zeroGap, added, kindOf}
-use Rattle.gap.proofs.Codes.{addable, sum-within, sum-none-left, sum-none-right, zero-sum}
-use Rattle.gap.proofs.Kind.{kind-sum, kind-three}
+use Rattle.kind.specs.Code.{none, base, half, sumOf, Within}
+use Rattle.kind.specs.Kind.{Kind, zeroGap, added, kindOf}
+use Rattle.kind.proofs.Codes.{addable, sum-within, sum-none-left, sum-none-right, zero-sum}
+use Rattle.kind.proofs.Kind.{kind-sum, kind-three}
 use Rattle.closure.specs.Closed.{Closed, RelaxedBy}
 use Rattle.closure.specs.Walk.{Reached}
 use Rattle.closure.specs.Walk.Walk.{stop}

@@ -9,8 +9,8 @@ use native.Mathlib.Decide.{ℕ-discrete}
 use native.Mathlib.Omega.{arith}
 use borrow.Author.Tests.{eq-eqb, ne-eqb}
 use Rattle.whole.specs.Whole.{plus, minus}
-use Rattle.gap.specs.Code.{base, none}
-use Rattle.gap.proofs.Codes.{sum-adds}
+use Rattle.kind.specs.Code.{base, none}
+use Rattle.kind.proofs.Codes.{sum-adds}
 use Rattle.closure.specs.Closed.{Closed, Tied, TiedAt, tie, tieOf}
 
 -- the test says that two points are tied

@@ -2,7 +2,7 @@
 -- Assumes nothing.
 use Prim.Native.Nat.{ℕ, _≤_, _<_}
 use mathlib.Core.List.{List}
-use Rattle.gap.specs.Kind.{Kind, added}
+use Rattle.kind.specs.Kind.{Kind, added}
 use Rattle.closure.specs.Walk.{Tight, Walk, Reached}
 use Rattle.closure.specs.Walk.Walk.{stop, step}
 use Rattle.closure.specs.Table.{Held}

@@ -6,7 +6,7 @@ use mathlib.Core.Bool.{Bool, cond, _&&_}
 use lib.Dec.{eqb}
 use lib.IntN.{ℤ}
 use Rattle.whole.specs.Whole.{plus, minus}
-use Rattle.gap.specs.Code.{base, half, none, sumOf, tighterOf, Within}
+use Rattle.kind.specs.Code.{base, half, none, sumOf, tighterOf, Within}
 
 -- d holds all its sums, and its whole numbers are from -R to R, so that sums of four have a code
 pub record Closed (N R : ℕ) (d : ℕ → ℕ → ℕ) : Type 0 where

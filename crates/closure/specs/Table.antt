@@ -2,8 +2,8 @@
 -- Assumes nothing.
 use Prim.Native.Nat.{ℕ, _*_, _≤_, _<_}
 use mathlib.Core.Logic.{_⊎_}
-use Rattle.gap.specs.Code.{none}
-use Rattle.gap.specs.Kind.{Kind, kindOf}
+use Rattle.kind.specs.Code.{none}
+use Rattle.kind.specs.Kind.{Kind, kindOf}
 use Rattle.closure.specs.Closed.{Closed}
 use Rattle.closure.specs.Walk.{Tight, Near, Reached}
 

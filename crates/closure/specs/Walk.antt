@@ -3,7 +3,7 @@
 use Prim.Native.Nat.{ℕ, _≤_}
 use mathlib.Core.List.{List, [], _∷_}
 use Rattle.whole.specs.Whole.{plus, minus, _≤ℤ_, _<ℤ_}
-use Rattle.gap.specs.Kind.{Kind, noGap, weak, strict, zeroGap, added}
+use Rattle.kind.specs.Kind.{Kind, noGap, weak, strict, zeroGap, added}
 
 -- k is at least as tight as l
 unfoldable pub Tight : Kind → Kind → Type 0

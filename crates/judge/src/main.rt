@@ -2,7 +2,8 @@
 // It is thin over the panel, which is proved; what it reads and prints is run and compared.
 use libc::STDIN_FILENO;
 use libc::STDOUT_FILENO;
-use panel::Answer;
+use promise::Answer;
+use refusal::Refusal;
 use sheet::EntryNumber;
 
 fn main() {
@@ -15,18 +16,26 @@ fn main() {
         }
         Answer::Clashes(size) => {
             let end = size as usize;
-            io::write_all(STDOUT_FILENO, b"clashes");
-            print_list(&room[8..end]);
-            io::write_all(STDOUT_FILENO, b"\n");
+            print_clash(&room[writing::HEAD..end]);
         }
         Answer::Refused(why) => {
-            io::write_all(STDOUT_FILENO, b"refused ");
-            io::print_decimal(STDOUT_FILENO, why.number() as u64);
-            io::write_all(STDOUT_FILENO, b" at ");
-            io::print_decimal(STDOUT_FILENO, why.place() as u64);
-            io::write_all(STDOUT_FILENO, b"\n");
+            print_refused(why);
         }
     }
+}
+
+fn print_clash(list: &[u8]) {
+    io::write_all(STDOUT_FILENO, b"clashes");
+    print_list(list);
+    io::write_all(STDOUT_FILENO, b"\n");
+}
+
+fn print_refused(why: Refusal) {
+    io::write_all(STDOUT_FILENO, b"refused ");
+    io::print_decimal(STDOUT_FILENO, why.number() as u64);
+    io::write_all(STDOUT_FILENO, b" at ");
+    io::print_decimal(STDOUT_FILENO, why.place() as u64);
+    io::write_all(STDOUT_FILENO, b"\n");
 }
 
 fn print_list(list: &[u8]) {

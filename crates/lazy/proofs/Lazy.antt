@@ -14,10 +14,10 @@ use Rattle.sheet.specs.Decode.{each}
 use Rattle.sheet.specs.Sheet.{Sheet, countEntries}
 use Rattle.sheet.proofs.Decode.{length-each, getD-each}
 use Rattle.meaning.specs.Judged.{HoldsAll, ClashesFirst}
-use Rattle.refusal.proofs.Replies.{fine-larger}
+use Rattle.grounds.proofs.Replies.{fine-larger}
 use Rattle.answer.specs.Record.{clashesRecord, ListWithin}
-use Rattle.panel.specs.Answered.{over, Decided, Answered}
-use Rattle.panel.proofs.Unique.{not-both, holds-all, one-first}
+use Rattle.promise.specs.Answered.{over, Decided, Answered}
+use Rattle.promise.proofs.Unique.{not-both, holds-all, one-first}
 use Rattle.starred.specs.Bytes.{bytes1, bytes2, bytes6}
 use Rattle.starred.specs.Claim.{Reads}
 use Rattle.starred.proofs.Starred.{starred}

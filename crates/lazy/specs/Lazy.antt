@@ -8,7 +8,7 @@ use lib.ListN.{length, take}
 use Rattle.big.specs.Big.{bigOf}
 use Rattle.sheet.specs.Limits.{maxEntries, roomNeeded}
 use Rattle.answer.specs.Record.{clashesRecord}
-use Rattle.panel.specs.Answered.{over, Answered}
+use Rattle.promise.specs.Answered.{over, Answered}
 use Rattle.starred.specs.Bytes
 
 -- no reply to these bytes that keeps the promise is so, in a room that is long enough

@@ -6,8 +6,8 @@ use mathlib.Core.Logic.{⊎-elim}
 use native.Mathlib.Omega.{arith}
 use borrow.Author.Tests.{lt-ltb, le-ltb}
 use Rattle.whole.proofs.Order.{order}
-use Rattle.gap.specs.Code.{none, half, base}
-use Rattle.gap.proofs.Codes.{there, sum-adds, sum-halves}
+use Rattle.kind.specs.Code.{none, half, base}
+use Rattle.kind.proofs.Codes.{there, sum-adds, sum-halves}
 use Rattle.closure.specs.Closed.{Closed, Tied}
 use Rattle.closure.proofs.Ties.{round}
 use Rattle.levels.specs.Level.{wholeAt, leastOf, termOf, otherOf}

@@ -4,7 +4,7 @@ use Prim.Native.Nat.{ℕ, zero, suc, _+_, _*_, _≤_, _<_}
 use mathlib.Core.Logic.{⊎-elim}
 use native.Mathlib.Nat.{suc-mul, eq-or-lt-of-le}
 use native.Mathlib.Omega.{arith}
-use Rattle.gap.specs.Code.{half}
+use Rattle.kind.specs.Code.{half}
 use Rattle.levels.specs.Level.{sumTo, leastTo}
 
 -- term by term, with a constant on each side

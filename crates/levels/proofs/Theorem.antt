@@ -10,9 +10,9 @@ use native.Mathlib.Omega.{arith}
 use Rattle.whole.specs.Whole.{plus, minus}
 use Rattle.whole.proofs.Parts.{moved, parts-inj, scaled, sub-parts}
 use Rattle.whole.proofs.Order.{order}
-use Rattle.gap.specs.Code.{none, half}
-use Rattle.gap.specs.Meets.{Meets, wholeOf}
-use Rattle.gap.proofs.Flat.{meets}
+use Rattle.kind.specs.Code.{none, half}
+use Rattle.kind.specs.Meets.{Meets, wholeOf}
+use Rattle.kind.proofs.Flat.{meets}
 use Rattle.closure.specs.Closed.{Closed, Tied, tie}
 use Rattle.closure.proofs.Ties.{tie-tied, tied-tie, tied?}
 use Rattle.levels.specs.Level.{wholeAt, totalOf, lowestOf, levelOf, valueOf}

@@ -7,9 +7,9 @@ use native.Mathlib.Nat.{mul-le-mul}
 use native.Mathlib.Omega.{arith}
 use Rattle.whole.specs.Whole.{plus, minus}
 use Rattle.whole.proofs.Parts.{plus-zero, sub-parts}
-use Rattle.gap.specs.Code.{half, base}
-use Rattle.gap.specs.Meets.{wholeOf}
-use Rattle.gap.proofs.Encode.{codeOf}
+use Rattle.kind.specs.Code.{half, base}
+use Rattle.kind.specs.Meets.{wholeOf}
+use Rattle.kind.proofs.Encode.{codeOf}
 use Rattle.closure.specs.Closed.{Tied}
 use Rattle.closure.specs.Table.{reach}
 use Rattle.levels.specs.Level.{wholeAt}

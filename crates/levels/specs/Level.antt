@@ -4,7 +4,7 @@ use Prim.Native.Nat.{ℕ, zero, suc, _+_, _*_, _/_, min}
 use mathlib.Core.Bool.{Bool, cond}
 use lib.Dec.{ltb}
 use lib.IntN.{ℤ, subℕ}
-use Rattle.gap.specs.Code.{none, half}
+use Rattle.kind.specs.Code.{none, half}
 use Rattle.closure.specs.Closed.{tie}
 
 -- the whole number of a code, strict or not

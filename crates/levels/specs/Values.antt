@@ -4,7 +4,7 @@ use Prim.Native.Nat.{ℕ, _+_, _*_, _≤_, _<_}
 use mathlib.Core.Path.{_≡_}
 use lib.IntN.{ℤ, pos, _+ℤ_, _*ℤ_}
 use Rattle.whole.specs.Whole.{plus, minus}
-use Rattle.gap.specs.Meets.{Meets, wholeOf}
+use Rattle.kind.specs.Meets.{Meets, wholeOf}
 use Rattle.closure.specs.Closed.{Tied}
 
 -- the levels n i / (N * N) of the points below N, with point z at 0

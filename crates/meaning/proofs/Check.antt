@@ -1,4 +1,5 @@
--- A test that hands over the proof where it passes: that values meet a sheet. They pass only if each function answers its first argument, which is enough for the starred sheets.
+-- A test that hands over the proof where it passes: that values meet a sheet. They pass only if each function answers as it is told to, by its
+-- symbol and the values of its arguments.
 -- Assumes nothing.
 use Prim.Native.Nat.{ℕ, zero, suc, _+_, _≤_, _<_}
 use mathlib.Core.Path.{_≡_}
@@ -45,7 +46,12 @@ compares unequal x y = test (not (same x y)) (λ t e. T-not (same x y) t (rw e (
 compares atMost x y = ordered
 compares less x y = ordered
 
-module _ (D : ℕ) (n : ℕ → ℤ) where
+-- what the functions of one argument and of two answer
+pub record Answers : Type 0 where
+  pub one : (symbol : ℕ) → ℤ → ℤ
+  pub two : (symbol : ℕ) → ℤ → ℤ → ℤ
+
+module _ (answers : Answers) (D : ℕ) (n : ℕ → ℤ) where
   abbrev entry-true : (e : Entry) → Option (EntryTrue D n e)
   entry-true e = compares (e .relation) (n (e .a)) (n (e .b) +ℤ e .c *ℤ pos D)
 
@@ -54,8 +60,8 @@ module _ (D : ℕ) (n : ℕ → ℤ) where
   value x unknown = x
   value x (number c) = c *ℤ pos D
   value x (shift a c) = n a +ℤ c *ℤ pos D
-  value x (apply symbol a) = n a
-  value x (apply2 symbol a b) = n a
+  value x (apply symbol a) = answers .one symbol (n a)
+  value x (apply2 symbol a b) = answers .two symbol (n a) (n b)
 
   pub is-defined : (x : ℤ) (t : Term) → x ≡ value x t → Defined D n x t
   is-defined x unknown e = tt

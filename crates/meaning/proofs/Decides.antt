@@ -1,8 +1,11 @@
 -- What both answers of a test show, from what they show of its parts.
 -- Assumes nothing.
 use mathlib.Core.Path.{sym}
-use mathlib.Core.Bool.{Bool, false, true≢false}
+use mathlib.Core.Bool.{Bool, true, false, true≢false}
 use Rattle.meaning.specs.Decides.{Decides}
+
+pub shown : {A : Type 0} → A → Decides A true
+shown a = record { yes = λ e. a; no = λ e x. true≢false e }
 
 pub refuted : {A : Type 0} → (A → ⊥) → Decides A false
 refuted n = record { yes = λ e. absurd (true≢false (sym e)); no = λ e. n }

@@ -7,7 +7,7 @@ use mathlib.Core.Bool.{true, true≢false}
 use mathlib.Core.List.{List, [], _∷_}
 use mathlib.Core.Option.{Option, Option·map, IsSome, get}
 use lib.Dec.{lit<}
-use lib.IntN.{ℤ, pos}
+use lib.IntN.{ℤ, pos, _+ℤ_}
 use lib.ListN.{getD}
 use native.Mathlib.Omega.{arith}
 use Rattle.whole.proofs.Parts.{parts-inj, plus-zero}
@@ -17,20 +17,25 @@ use Rattle.sheet.specs.Sheet.{Sheet, countEntries}
 use Rattle.meaning.specs.Meaning.{one, two, Meet, Holds, Clashes}
 use Rattle.meaning.specs.Lines.{line6}
 use Rattle.meaning.specs.Judged.{HoldsAll, ClashesFirst, Judged}
+use Rattle.meaning.specs.Functions.{lineSymbols, line11, FunctionsApart}
 use Rattle.meaning.proofs.Meaning.{clashes-upward}
-use Rattle.meaning.proofs.Check.{only-if, below, meets}
+use Rattle.meaning.proofs.Check.{Answers, only-if, below, meets}
 use Rattle.meaning.proofs.Clash.{says, not-apart}
 
-abbrev model : (s : Sheet) (S : Set) → ℕ → List ℕ → Option (Holds s S)
-model s S D values =
-    let n : ℕ → ℤ = λ i. pos (getD values i 0) in
-    Option·map (λ m. record { D = D; n = n; meet = m }) (meets D n s S)
+-- every function answers its first argument, which is enough for the starred lines
+abbrev firsts : Answers
+firsts = record { one = λ f x. x; two = λ f x y. x }
 
-holds : {line : Sheet} (D : ℕ) (values : List ℕ) → IsSome (model line every D values) → HoldsAll line
-holds {line} D values m = get (model line every D values) m
+abbrev model : Answers → (s : Sheet) (S : Set) → ℕ → List ℕ → Option (Holds s S)
+model answers s S D values =
+    let n : ℕ → ℤ = λ i. pos (getD values i 0) in
+    Option·map (λ m. record { D = D; n = n; meet = m }) (meets answers D n s S)
+
+holds : {line : Sheet} (D : ℕ) (values : List ℕ) → IsSome (model firsts line every D values) → HoldsAll line
+holds {line} D values m = get (model firsts line every D values) m
 
 abbrev models : (s : Sheet) (A : Set) → List (List ℕ) → Option ((x : ℕ) → x < countEntries s → A x ≡ true → Holds s (lower number A x))
-models s A values = below (countEntries s) (λ x. only-if (A x) (model s (lower number A x) 1 (getD values x [])))
+models s A values = below (countEntries s) (λ x. only-if (A x) (model firsts s (lower number A x) 1 (getD values x [])))
 
 clashes : {line : Sheet} {list : List ℕ} → ((D : ℕ) (n : ℕ → ℤ) → Meet line (setOf list) D n → ⊥)
     → (values : List (List ℕ)) → IsSome (models line (setOf list) values) → ClashesFirst line list
@@ -83,3 +88,14 @@ judged =
     sixth =
         clashes (λ D n m. omega (arith, says m 0 refl, says m 1 refl, says m 2 refl))
         ((1 ∷ 0 ∷ 0 ∷ []) ∷ (1 ∷ 1 ∷ 0 ∷ []) ∷ (0 ∷ 0 ∷ 0 ∷ []) ∷ []) tt
+
+-- a function of one argument answers it and its symbol's number, one of two answers the first
+abbrev symbols : Answers
+symbols = record { one = λ f x. x +ℤ pos f; two = λ f x y. x }
+
+pub functions-apart : FunctionsApart
+functions-apart =
+    record {
+      symbols = get (model symbols lineSymbols every 1 (0 ∷ 7 ∷ 8 ∷ [])) tt;
+      sheet11 = get (model symbols line11 every 1 (0 ∷ 7 ∷ 0 ∷ [])) tt;
+    }

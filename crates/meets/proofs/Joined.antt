@@ -13,8 +13,9 @@ use Rattle.whole.proofs.Order.{order}
 use Rattle.order.specs.First.{Set}
 use Rattle.sheet.specs.Sheet.{Sheet, Term, countTerms, countEntries, termAt}
 use Rattle.meaning.specs.Meaning.{SameInput, one, two}
+use Rattle.keys.specs.Ready.{Near}
 use Rattle.meets.specs.Met.{value, Met}
-use Rattle.meets.specs.Parts.{Near, TermsMet, EntriesMet}
+use Rattle.meets.specs.Parts.{TermsMet, EntriesMet}
 
 -- a level x within B of the zero level z
 above-limit : (x z B : ℕ) → x ≤ z + B → plus (subℕ x z) ≤ B

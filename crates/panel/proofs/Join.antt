@@ -15,18 +15,18 @@ use Rattle.sheet.specs.Sheet.{Sheet, countTerms, WellFormed}
 use Rattle.sheet.proofs.Decode.{length-each}
 use Rattle.meaning.specs.Meaning.{Clashes}
 use Rattle.meaning.proofs.Meaning.{meet-fewer, clashes-upward}
-use Rattle.refusal.specs.Table.{fine, refused, refusal}
-use Rattle.refusal.proofs.Replies.{fine-refused}
-use Rattle.answer.specs.Record.{holdsRecord, clashesRecord}
+use Rattle.grounds.specs.Table.{fine, refused, refusal}
+use Rattle.grounds.proofs.Replies.{fine-refused}
+use Rattle.answer.specs.Record.{listed, holdsRecord, clashesRecord}
 use Rattle.answer.specs.Levels.{Recorded}
 use Rattle.answer.proofs.Tells.{holds-length, clashes-length}
 use Rattle.meets.specs.Met.{value, Met}
-use Rattle.values.specs.Settled.{Settled}
-use Rattle.values.specs.Written.{recordLength, listed, Written}
+use Rattle.settled.specs.Settled.{Settled}
+use Rattle.values.specs.Written.{recordLength, Written}
 use Rattle.values.proofs.Limits.{listed-length, listed-at}
 use Rattle.blame.specs.Blamed.{Blamed}
 use Rattle.blame.proofs.Blame.{all-marked}
-use Rattle.panel.specs.Answered.{over, SaysHolds, SaysClashes, Decided, Answered}
+use Rattle.promise.specs.Answered.{over, SaysHolds, SaysClashes, Decided, Answered}
 
 -- a record in the first bytes, and past it the bytes as they were
 recorded : (answer old new : List ℕ) → length new ≡ length old → (size : ℕ) → size ≡ length answer → take size new ≡ answer →

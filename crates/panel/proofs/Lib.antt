@@ -1,3 +1,1 @@
-pub mod Unique
-mod Listing
 mod Join

@@ -1,5 +1,1 @@
-pub mod Fine
-pub mod Lowest
-pub mod Rows
-pub mod Replies
 pub mod Told

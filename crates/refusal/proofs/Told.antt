@@ -8,7 +8,7 @@ use Rattle.refusal.specs.declared.Refusal.{Refusal}
 use Rattle.refusal.specs.declared.Refusal.the-variants.{Length, Version, Shape, WrongTerm, WrongEntry, Room}
 use Rattle.refusal.specs.declared.Checked.{Checked}
 use Rattle.refusal.specs.declared.Checked.the-variants.{Fine, Refused}
-use Rattle.refusal.specs.Table.{Reply, fine, refused}
+use Rattle.grounds.specs.Table.{Reply, fine, refused}
 use Rattle.refusal.specs.Says.{numberOf, placeOf, checkSays}
 
 -- the way back, from which it follows

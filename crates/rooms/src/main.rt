@@ -1,15 +1,15 @@
-// Sheet 15's last part, run: the sheet on standard input with an answer room one byte too small, and with one just large enough.
+// Sheet 15's last part, run: the sheet on standard input with answer rooms of 519 and of 520 bytes, as document 01 has them.
 // It is thin over the panel, and prints the number and the place of each answer on a line.
 use libc::STDIN_FILENO;
 use libc::STDOUT_FILENO;
-use panel::Answer;
+use promise::Answer;
 
 fn main() {
     let mut bytes = [0u8; sheet::LONGEST + 1];
     let lent = io::read_full(STDIN_FILENO, &mut bytes);
-    let mut short = [0u8; sheet::ROOM_NEEDED - 1];
+    let mut short = [0u8; 519];
     print_answer(panel::judge(&bytes[..lent], &mut short));
-    let mut enough = [0u8; sheet::ROOM_NEEDED];
+    let mut enough = [0u8; 520];
     print_answer(panel::judge(&bytes[..lent], &mut enough));
 }
 

@@ -1,12 +1,9 @@
-// A sheet's bytes as terms and entries by value, equal to the abstract sheet of specs/.
-// It rests on whole and big. Its readers ask for a sheet of the stated size and promise nothing of one that isn't.
+// The sheet: abstract in specs/, with its decoding from bytes and its limits; and its terms and entries by value, made of a record's fields.
+// It rests on big's numbers, and promises that what a record makes is what specs/ decodes of it. Records are read by reading.
 ghost use mathlib.Core.Path.{_≡_};
-ghost use Prim.Native.Nat.{_+_, _≤_, _<_};
-ghost use lib.ListN.{length};
 ghost use Rattle.big.specs.Big.{signedOf};
-ghost use Rattle.sheet.specs.Decode.{Sized, fieldsAt, sheetOf, decodeTerm, decodeEntry, relationOf};
+ghost use Rattle.sheet.specs.Decode.{decodeTerm, decodeEntry, relationOf};
 ghost use Rattle.sheet.specs.Says.{termSays, entrySays, biasedSays, relationSays};
-ghost use Rattle.sheet.specs.Sheet.{countTerms, countEntries, termAt, entryAt};
 
 // The limits of a sheet: T is 1 to MAX_TERMS, L is 0 to MAX_ENTRIES.
 pub const MAX_TERMS: usize = 64;
@@ -64,51 +61,8 @@ pub struct Fields {
     pub c: u16,
 }
 
-pub fn count_terms(sheet: &[u8]) -> usize
-    requires { ⌜ 6 ≤ length (now sheet) ⌝ }
-    ensures { λ r. ⌜ (r ≡ countTerms (sheetOf (now (sheet .entry)))) × (r < 256) ⌝ }
-{
-    sheet[3] as usize
-}
-
-pub fn count_entries(sheet: &[u8]) -> usize
-    requires { ⌜ 6 ≤ length (now sheet) ⌝ }
-    ensures { λ r. ⌜ (r ≡ countEntries (sheetOf (now (sheet .entry)))) × (r < 256) ⌝ }
-{
-    sheet[4] as usize
-}
-
-pub fn term_at(sheet: &[u8], i: TermNumber) -> Term
-    requires { ⌜ Sized (now sheet) × (i .0 < countTerms (sheetOf (now sheet))) ⌝ }
-    ensures { λ r. ⌜ termSays r ≡ termAt (sheetOf (now (sheet .entry))) (i .0) ⌝ }
-{
-    let at = 6 + 6 * (i.0 as usize);
-    term_of(fields_at(sheet, at))
-}
-
-pub fn entry_at(sheet: &[u8], e: EntryNumber) -> Entry
-    requires { ⌜ Sized (now sheet) × (e .0 < countEntries (sheetOf (now sheet))) ⌝ }
-    ensures { λ r. ⌜ entrySays r ≡ entryAt (sheetOf (now (sheet .entry))) (e .0) ⌝ }
-{
-    let at = 6 + 6 * count_terms(sheet) + 6 * (e.0 as usize);
-    entry_of(fields_at(sheet, at))
-}
-
-// The record that begins at at.
-pub fn fields_at(sheet: &[u8], at: usize) -> Fields
-    requires { ⌜ at + 6 ≤ length (now sheet) ⌝ }
-    ensures { λ r. ⌜ r ≡ fieldsAt (now (sheet .entry)) at ⌝ }
-{
-    Fields {
-        kind: sheet[at],
-        symbol: sheet[at + 1],
-        a: sheet[at + 2],
-        b: sheet[at + 3],
-        c: big::read(sheet, at + 4, 2) as u16,
-    }
-}
-
-fn term_of(f: Fields) -> Term
+// The term that a record's fields make.
+pub fn term_of(f: Fields) -> Term
     ensures { λ r. ⌜ termSays r ≡ decodeTerm f ⌝ }
 {
     let kind = f.kind;
@@ -121,7 +75,8 @@ fn term_of(f: Fields) -> Term
     }
 }
 
-fn entry_of(f: Fields) -> Entry
+// The entry that a record's fields make.
+pub fn entry_of(f: Fields) -> Entry
     ensures { λ r. ⌜ entrySays r ≡ decodeEntry f ⌝ }
 {
     Entry {

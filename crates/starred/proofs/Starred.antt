@@ -4,7 +4,8 @@ use mathlib.Core.Path.{refl}
 use Rattle.big.specs.Big.{bigOf, signedOf, bytesOf}
 use Rattle.sheet.specs.Decode.{sheetOf, fieldsAt, relationOf, decodeTerm, decodeEntry, each}
 use Rattle.meaning.proofs.Judged.{judged}
-use Rattle.refusal.specs.Table.{refusal, sheetRefusal, wrongLength, wrongVersion, wrongShape, wrongTermOf, wrongEntryOf, wrongTerm, wrongEntry, lowest}
+use Rattle.grounds.specs.Rows.{wrongLength, wrongVersion, wrongShape, wrongTermOf, wrongEntryOf, wrongTerm, wrongEntry, lowest}
+use Rattle.grounds.specs.Table.{refusal, sheetRefusal}
 use Rattle.answer.specs.Record.{clashesRecord}
 use Rattle.starred.specs.Claim.{Starred}
 

@@ -9,7 +9,7 @@ use Rattle.sheet.specs.Sheet.{Sheet}
 use Rattle.sheet.specs.Decode.{sheetOf}
 use Rattle.meaning.specs.Lines
 use Rattle.meaning.specs.Judged.{Judged}
-use Rattle.refusal.specs.Table.{refusal, fine}
+use Rattle.grounds.specs.Table.{refusal, fine}
 use Rattle.answer.specs.Record.{clashesRecord}
 use Rattle.starred.specs.Bytes
 

@@ -8,29 +8,28 @@ use lib.ListN.{length, getD}
 use native.Mathlib.Decide.{decLt}
 use native.Mathlib.Omega.{arith}
 use borrow.Author.Count.{below-more}
-use Rattle.gap.specs.Code.{none, base, sumOf, tighterOf, Addable, Within}
-use Rattle.gap.proofs.Codes.{addable, sum-none-right, sum-within, sum-mono}
+use Rattle.kind.specs.Code.{none, base, sumOf, tighterOf, Addable, Within}
+use Rattle.kind.proofs.Codes.{addable, sum-none-right, sum-within, sum-mono}
 use Rattle.closure.specs.Closed.{RelaxedBy}
 use Rattle.closure.specs.Table.{Table, step, reach}
 use Rattle.closure.proofs.Kept.{wider, row-kept, held-kept}
 use Rattle.closure.proofs.Table as closure
-use Rattle.table.specs.Cells.{stride, cells, cell, RowRelaxed, Put, Inserted}
-use Rattle.table.proofs.Keeps.{kept-all}
-
--- the rows below m are relaxed by the bound g from a to b, and nothing else is changed
-pub record Rows (n : ℕ) (old d : List ℕ) (a b g m : ℕ) : Type 0 where
-  pub at : (i : ℕ) → i < m → (j : ℕ) → j < n → cell d i j ≡ tighterOf (cell old i j) (sumOf (sumOf (cell old i a) g) (cell old b j))
-  pub right : (i j : ℕ) → n ≤ j → j < stride → cell d i j ≡ cell old i j
-  pub below : (k : ℕ) → m * stride ≤ k → getD d k 0 ≡ getD old k 0
+use Rattle.cells.specs.Cells.{stride, cells, cell, RowRelaxed}
+use Rattle.cells.proofs.Keeps.{kept-all}
+use Rattle.table.specs.Inserted.{Rows, Put, Inserted}
 
 pub none-yet : (n : ℕ) (d : List ℕ) (a b g : ℕ) → Rows n d d a b g 0
 none-yet n d a b g = record { at = λ i h j k. absurd (omega arith); right = λ i j h k. refl; below = λ k h. refl }
 
--- what `insert` asks for
+-- what `insert` and `relax_rows` ask for
 pub record Asked (n : ℕ) (old : List ℕ) (a b g : ℕ) : Type 0 where
   pub size : (length old ≡ cells) × (n ≤ stride) × (a < n) × (b < n)
   pub bound : (g < none) × Within step g
   pub table : Table n (cell old)
+
+pub asked : {n : ℕ} {d : List ℕ} {a b g : ℕ} →
+    ((length d ≡ cells) × (n ≤ stride) × (a < n) × (b < n)) × (((g < none) × Within step g) × Table n (cell d)) → Asked n d a b g
+asked p = record { size = p .0; bound = p .1 .0; table = p .1 .1 }
 
 module _ (n : ℕ) (old : List ℕ) (a b g : ℕ) (A : Asked n old a b g) where
   T : Table n (cell old)

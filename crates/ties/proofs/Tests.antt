@@ -8,7 +8,7 @@ use native.Mathlib.Omega.{arith}
 use borrow.Author.Tests.{eqb-true, eqb-false}
 use Rattle.whole.specs.Whole.{plus, minus}
 use Rattle.whole.proofs.Parts.{sub-parts}
-use Rattle.gap.specs.Code.{base}
+use Rattle.kind.specs.Code.{base}
 use Rattle.closure.specs.Closed.{Closed, TiedAt, tieOf}
 use Rattle.closure.proofs.Ties.{tie-at}
 use Rattle.meaning.specs.Decides.{Decides}

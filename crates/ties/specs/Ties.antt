@@ -1,26 +1,12 @@
--- What the tests of a table answer.
+-- What the look at the ≠ entries answers.
 -- Assumes nothing.
 use Prim.Native.Nat.{ℕ, _<_}
 use mathlib.Core.Path.{_≡_}
 use mathlib.Core.Bool.{Bool, true, false}
-use lib.IntN.{pos}
 use Rattle.closure.specs.Closed.{TiedAt}
 use Rattle.order.specs.First.{Set}
-use Rattle.sheet.specs.Sheet.{Term, unknown, number, shift, apply, apply2, unequal, Entry, Sheet, countEntries, entryAt}
-use Rattle.meaning.specs.Meaning.{SameInput}
-use Rattle.values.specs.Settled.{Apart}
-
--- a term of kind 3 or 4: no other has an input
-abbrev pub isApplication : Term → Bool
-isApplication unknown = false
-isApplication (number c) = false
-isApplication (shift a c) = false
-isApplication (apply symbol a) = true
-isApplication (apply2 symbol a b) = true
-
--- the table says that the two terms have the same input
-abbrev pub Joined : (ℕ → ℕ → ℕ) → Term → Term → Type 0
-Joined d t u = SameInput (λ a b. TiedAt d a b (pos 0)) t u
+use Rattle.sheet.specs.Sheet.{unequal, Entry, Sheet, countEntries, entryAt}
+use Rattle.settled.specs.Settled.{Apart}
 
 -- a ≠ entry on terms tied at exactly its c
 pub record Broken (d : ℕ → ℕ → ℕ) (e : Entry) : Type 0 where

@@ -13,9 +13,9 @@ use Rattle.sheet.specs.Sheet.{Sheet, countTerms, WellFormed}
 use Rattle.sheet.proofs.Decode.{each-same}
 use Rattle.answer.specs.Record.{holdsRecord}
 use Rattle.answer.specs.Levels.{valueAt, Recorded}
-use Rattle.values.specs.Settled.{zeroLevel, points}
+use Rattle.settled.specs.Settled.{zeroLevel, points}
 use Rattle.values.specs.Written.{Written}
-use Rattle.values.proofs.Meet.{settled-meets}
+use Rattle.settled.proofs.Meet.{settled-meets}
 use Rattle.values.proofs.Limits.{values-within}
 
 module _ (s : Sheet) (d : ℕ → ℕ → ℕ) (v : List ℕ) where

@@ -1,5 +1,3 @@
-pub mod Held
-pub mod Meet
 pub mod Limits
 pub mod Loops
 pub mod Fill

@@ -15,9 +15,8 @@ use Rattle.levels.proofs.Uses.{limit}
 use Rattle.sheet.specs.Limits.{maxTerms}
 use Rattle.sheet.specs.Sheet.{Sheet, countTerms, WellFormed}
 use Rattle.sheet.proofs.Decode.{length-each, getD-each}
-use Rattle.answer.specs.Record.{ValuesWithin}
-use Rattle.values.specs.Settled.{zeroLevel, points}
-use Rattle.values.specs.Written.{listed}
+use Rattle.answer.specs.Record.{listed, ValuesWithin}
+use Rattle.settled.specs.Settled.{zeroLevel, points}
 
 pub listed-length : (s : Sheet) (n : ℕ → ℤ) → length (listed s n) ≡ countTerms s
 listed-length s n = length-each (countTerms s) n

@@ -5,7 +5,7 @@ use mathlib.Core.Path.{_≡_, refl, _∙_, ap, ap₂}
 use mathlib.Core.Bool.{Bool, true, false}
 use native.Mathlib.Numerals.{add-one}
 use native.Mathlib.Omega.{arith}
-use Rattle.gap.specs.Code.{half}
+use Rattle.kind.specs.Code.{half}
 use Rattle.levels.specs.Level.{sumTo, leastTo, first}
 
 pub sum-none : (f : ℕ → ℕ) → 0 ≡ sumTo 0 f

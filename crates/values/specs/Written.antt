@@ -7,19 +7,14 @@ use mathlib.Core.List.{List}
 use lib.IntN.{ℤ}
 use lib.ListN.{getD, take}
 use Rattle.order.specs.First.{Set}
-use Rattle.sheet.specs.Decode.{each}
 use Rattle.sheet.specs.Sheet.{Sheet, countTerms}
 use Rattle.meaning.specs.Meaning.{Meet}
-use Rattle.answer.specs.Record.{holdsRecord, ValuesWithin}
-use Rattle.values.specs.Settled.{Settled}
+use Rattle.answer.specs.Record.{headLength, listed, holdsRecord, ValuesWithin}
+use Rattle.settled.specs.Settled.{Settled}
 
 -- the length of the record
 abbrev pub recordLength : Sheet → ℕ
-recordLength s = 8 + 8 * countTerms s
-
--- one n per term, as a list
-abbrev pub listed : Sheet → (ℕ → ℤ) → List ℤ
-listed s n = each (countTerms s) n
+recordLength s = headLength + 8 * countTerms s
 
 pub record Written (s : Sheet) (d : ℕ → ℕ → ℕ) (old new : List ℕ) : Type 0 where
   pub D : ℕ

@@ -1,17 +1,17 @@
 // The values of a sheet's terms, read off a closed table: one formula (levels, specs/Level.antt) and no search.
 // It rests on closed tables (closure, table) and on levels' theorem, and writes D and one n per term as the answer record.
-// It promises that these meet the sheet on every set of entries for which the table is settled (specs/Settled.antt, Written.antt).
+// It promises that these meet the sheet on every set of entries for which the table is settled (settled, specs/Settled.antt; specs/Written.antt).
 ghost use mathlib.Core.Path.{_≡_};
 ghost use Prim.Native.Nat.{ℕ, _*_, _^_, _≤_, _<_, min};
 ghost use lib.ListN.{length, getD};
-ghost use Rattle.gap.specs.Code.{half, none};
+ghost use Rattle.kind.specs.Code.{half, none};
 ghost use Rattle.closure.specs.Closed.{Closed};
 ghost use Rattle.closure.specs.Table.{reach};
 ghost use Rattle.levels.specs.Level.{wholeAt, sumTo, leastOf, termOf, lowestOf, levelOf};
-ghost use Rattle.table.specs.Cells.{stride, cells, cell};
+ghost use Rattle.cells.specs.Cells.{stride, cells, cell};
 ghost use Rattle.sheet.specs.Decode.{Sized, sheetOf};
 ghost use Rattle.sheet.specs.Sheet.{WellFormed};
-ghost use Rattle.values.specs.Settled.{points};
+ghost use Rattle.settled.specs.Settled.{points};
 ghost use Rattle.values.specs.Written.{recordLength, Written};
 use gap::Gap;
 
@@ -23,11 +23,11 @@ pub fn write(sheet: &[u8], d: &[u32], room: &mut [u8]) -> usize
     ensures length { λ r. ⌜ r ≡ recordLength (sheetOf (now (sheet .entry))) ⌝ }
     ensures record { λ _. ⌜ Written (sheetOf (now (sheet .entry))) (cell (now (d .entry))) (now (room .entry)) (now (room .exit)) ⌝ }
 {
-    let terms = sheet::count_terms(sheet);
+    let terms = reading::count_terms(sheet);
     let n = terms + 1;
     let mut v = [0u64; table::STRIDE];
     levels(d, n, &mut v);
-    answer::holds(room, (n * n) as u64, &v, terms)
+    writing::holds(room, (n * n) as u64, &v, terms)
 }
 
 // The levels of all n points.
@@ -76,7 +76,7 @@ fn total(d: &[u32], i: usize, n: usize, other: u64) -> u64
     let mut sum: u64 = 0;
     let mut s = 0;
     while s < n {
-        sum += term(other, table::gap_at(d, i, s).0);
+        sum += term(other, cells::gap_at(d, i, s).0);
         s += 1;
     }
     sum
@@ -90,7 +90,7 @@ fn least(d: &[u32], i: usize, n: usize) -> u64
     let mut m = whole(Gap::ZERO.0);
     let mut s = 0;
     while s < n {
-        m = lesser(m, whole(table::gap_at(d, i, s).0));
+        m = lesser(m, whole(cells::gap_at(d, i, s).0));
         s += 1;
     }
     m
@@ -108,17 +108,11 @@ fn term(other: u64, g: u32) -> u64
 fn whole(g: u32) -> u64
     ensures { λ r. ⌜ r ≡ wholeAt g ⌝ }
 {
-    (wide(g) + 1) / 2
+    (table::wide(g) + 1) / 2
 }
 
 fn lesser(x: u64, y: u64) -> u64
     ensures { λ r. ⌜ r ≡ min x y ⌝ }
 {
     if x < y { x } else { y }
-}
-
-fn wide(x: u32) -> u64
-    ensures { λ r. ⌜ r ≡ x ⌝ }
-{
-    x as u64
 }

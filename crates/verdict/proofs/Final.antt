@@ -8,17 +8,18 @@ use mathlib.Core.List.{List}
 use lib.IntN.{ℤ}
 use native.Mathlib.Decide.{ℕ-discrete}
 use native.Mathlib.Omega.{arith}
-use Rattle.gap.specs.Meets.{Meets}
-use Rattle.gap.proofs.Laws.{meets-zero, meets-none}
-use Rattle.table.specs.Cells.{cell, Kept, Started}
-use Rattle.table.proofs.Keeps.{kept-on}
+use Rattle.kind.specs.Meets.{Meets}
+use Rattle.kind.proofs.Laws.{meets-zero, meets-none}
+use Rattle.cells.specs.Cells.{cell, Kept}
+use Rattle.cells.proofs.Keeps.{kept-on}
+use Rattle.table.specs.Inserted.{Started}
 use Rattle.order.specs.First.{Set}
 use Rattle.sheet.specs.Sheet.{Sheet, countTerms, WellFormed}
-use Rattle.values.specs.Settled.{points, Settled}
-use Rattle.values.proofs.Meet.{settled-meets}
-use Rattle.bounds.specs.Step.{Met, Stepped}
-use Rattle.bounds.specs.True.{TermsHeld, TermsPut}
-use Rattle.bounds.proofs.Steps.{Leaves, changed, followed, term-tighter}
+use Rattle.settled.specs.Settled.{points, Settled}
+use Rattle.settled.proofs.Meet.{settled-meets}
+use Rattle.steps.specs.Step.{Met, Stepped}
+use Rattle.steps.specs.True.{TermsHeld, TermsPut}
+use Rattle.steps.proofs.Steps.{Leaves, changed, followed, term-tighter}
 use Rattle.verdict.specs.declared.Verdict.the-variants.{Clashes}
 use Rattle.verdict.specs.Judged.{verdictOf, Judged}
 use Rattle.verdict.specs.Entered.{EnteredHeld, EnteredPut}

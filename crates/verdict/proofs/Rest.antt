@@ -6,16 +6,17 @@ use mathlib.Core.Bool.{Bool, true, false}
 use mathlib.Core.List.{List}
 use lib.IntN.{ℤ}
 use native.Mathlib.Omega.{arith}
-use Rattle.table.specs.Cells.{cell}
+use Rattle.cells.specs.Cells.{cell}
 use Rattle.order.specs.First.{Set}
 use Rattle.sheet.specs.Sheet.{Sheet, entryAt, WellFormed}
-use Rattle.values.specs.Settled.{points}
-use Rattle.values.proofs.Held.{tied-met}
-use Rattle.bounds.specs.Step.{Met}
-use Rattle.bounds.specs.True.{EntriesPut}
-use Rattle.bounds.proofs.Steps.{changed, refused, followed, entry-tighter}
+use Rattle.settled.specs.Settled.{points}
+use Rattle.settled.proofs.Held.{tied-met}
+use Rattle.steps.specs.Step.{Met}
+use Rattle.steps.specs.True.{EntriesPut}
+use Rattle.steps.proofs.Steps.{changed, refused, followed, entry-tighter}
 use Rattle.ties.specs.Ties.{Checked}
-use Rattle.verdict.specs.Entered.{RestTrue, FunctionsPut, RestPut, EnteredPut}
+use Rattle.pairs.specs.Passing.{FunctionsPut}
+use Rattle.verdict.specs.Entered.{RestTrue, RestPut, EnteredPut}
 
 module _ (s : Sheet) (S : Set) (W : WellFormed s) {old new : List ℕ} {r : Bool} (A : FunctionsPut s old new r) where
   pub not-passed : r ≡ false → RestPut s S old new false

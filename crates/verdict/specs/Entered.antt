@@ -6,14 +6,10 @@ use mathlib.Core.List.{List}
 use lib.IntN.{ℤ}
 use Rattle.order.specs.First.{Set}
 use Rattle.sheet.specs.Sheet.{Sheet, countEntries}
-use Rattle.values.specs.Settled.{points, Saturated, Apart}
-use Rattle.bounds.specs.Step.{Stepped}
-use Rattle.bounds.specs.True.{EntriesTrue, EntriesHeld}
-use Rattle.verdict.specs.Passing.{FunctionsTrue}
-
--- the step that passes all equalities on
-abbrev pub FunctionsPut : Sheet → List ℕ → List ℕ → Bool → Type 0
-FunctionsPut s = Stepped (points s) (FunctionsTrue s) (Saturated s)
+use Rattle.settled.specs.Settled.{points, Saturated, Apart}
+use Rattle.steps.specs.Step.{Stepped}
+use Rattle.steps.specs.True.{EntriesTrue, EntriesHeld}
+use Rattle.pairs.specs.Passing.{FunctionsTrue}
 
 -- what is asked and held beyond the bounds of terms and entries, and the step that sees to it
 pub record RestTrue (s : Sheet) (S : Set) (D : ℕ) (v : ℕ → ℤ) : Type 0 where

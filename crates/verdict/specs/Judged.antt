@@ -6,7 +6,7 @@ use mathlib.Core.Bool.{Bool, true, false}
 use Rattle.order.specs.First.{Set}
 use Rattle.sheet.specs.Sheet.{Sheet}
 use Rattle.meaning.specs.Meaning.{Holds as SheetHolds, Clashes as SheetClashes}
-use Rattle.values.specs.Settled.{Settled}
+use Rattle.settled.specs.Settled.{Settled}
 use Rattle.verdict.specs.declared.Verdict.{Verdict}
 use Rattle.verdict.specs.declared.Verdict.the-variants.{Holds, Clashes}
 

@@ -5,7 +5,7 @@ use mathlib.Core.Path.{_≡_}
 use mathlib.Core.List.{List}
 use native.Mathlib.Omega.{arith}
 use borrow.Author.Needs.{needs}
-use Rattle.panel.specs.Answered.{Answered}
+use Rattle.promise.specs.Answered.{Answered}
 use Rattle.baruvkesh.proofs.baruvkesh_judge.Statement.{statement}
 use Rattle.baruvkesh.proofs.baruvkesh_judge.Tie as tie
 

@@ -10,7 +10,7 @@ use Rattle.blame.proofs.clashes.Tie as tie
 
 returns : tie.Need-returns
 returns c =
-    let met = c .before .before .values .ensures .0 (c .if1 .taken) in
+    let met = c .before .values .ensures .0 (c .if1 .taken) in
     (refuted (λ clash. clash (record { D = _; n = _; meet = met .meet })), record { right = λ i j l h. refl; below = λ k l. refl })
 
 returns-2 : tie.Need-returns-2
@@ -26,5 +26,5 @@ returns-3 c =
 pub clashes-spec : {M : Type 1} → statement M
 clashes-spec =
     tie.close
-    (tie.spec (λ c. search needs) (λ c κs. search needs) returns (λ c κs. search needs) (λ c. search needs) (λ c. search needs) (λ c. search needs)
+    (tie.spec (λ c κs. search needs) returns (λ c κs. search needs) (λ c. search needs) (λ c. search needs) (λ c. search needs)
     returns-2 (λ c. search needs) returns-3)

@@ -5,7 +5,7 @@ use mathlib.Core.Path.{_≡_, refl}
 use lib.ListN.{length, length-set}
 use native.Mathlib.Omega.{arith}
 use borrow.Author.Tests.{not-true, not-false}
-use Rattle.table.specs.Cells.{cells}
+use Rattle.cells.specs.Cells.{cells}
 use Rattle.order.specs.First.{marked, number}
 use Rattle.order.specs.Down.{GoneDown, start}
 use Rattle.order.proofs.Laws.{number-ties}

@@ -1,6 +1,5 @@
 -- `blame::write` meets its contract.
 -- Assumes nothing.
-use native.Mathlib.Omega.{arith}
 use borrow.Author.Needs.{needs}
 use Rattle.order.specs.First.{every}
 use Rattle.meaning.proofs.Meaning.{clashes-upward}
@@ -16,19 +15,13 @@ leave-out-requires c κs =
 
 returns : tie.Need-returns
 returns c =
-    let headed = c .before .before in
-    let listed = headed .before .before .before .before in
-    let left = listed .before .before .before .before in
+    let wrote = c .before .before in
+    let left = wrote .before .before .before .before in
     let counted = left .before .before in
     let begun = counted .before .before .before in
-    blamed _ (begun .pre .0 .1) _ (left .leave-out .ensures) _ _ _ _ (omega arith)
-    (rw (counted .count-entries .ensures .0) at (listed .list .ensures .1 .0))
-    (listed .list .ensures .1 .1)
-    (headed .head .ensures)
-    (λ k. c .slice-known3 .given k .fits)
+    blamed (begun .pre .0 .1) (left .leave-out .ensures) (rw (counted .count-entries .ensures .0) at (wrote .clashes .ensures))
 
 pub write-spec : {M : Type 1} → statement M
 write-spec =
     tie.close
-    (tie.spec (λ c κs. search needs) (λ c. search needs) leave-out-requires (λ c. search needs) (λ c κs. search needs) (λ c. search needs)
-    (λ c κs. search needs) (λ c. search needs) (λ c. search needs) returns)
+    (tie.spec (λ c κs. search needs) (λ c. search needs) leave-out-requires (λ c. search needs) (λ c κs. search needs) (λ c. search needs) returns)

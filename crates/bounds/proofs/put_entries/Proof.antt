@@ -7,15 +7,15 @@ use lib.ListN.{length, getD}
 use native.Mathlib.Omega.{arith}
 use borrow.Author.Needs.{needs}
 use borrow.Author.Tests.{not-true, not-false}
-use Rattle.table.specs.Cells.{Kept}
-use Rattle.table.proofs.Keeps.{kept-all}
+use Rattle.cells.specs.Cells.{Kept}
+use Rattle.cells.proofs.Keeps.{kept-all}
 use Rattle.sheet.specs.Decode.{sheetOf}
 use Rattle.sheet.specs.Sheet.{countEntries}
-use Rattle.values.specs.Settled.{points}
-use Rattle.bounds.specs.Step.{Went}
-use Rattle.bounds.specs.True.{EntriesTrue, EntriesHeld}
+use Rattle.settled.specs.Settled.{points}
+use Rattle.steps.specs.Step.{Went}
+use Rattle.steps.specs.True.{EntriesTrue, EntriesHeld}
 use Rattle.bounds.proofs.Parts.{entries-more}
-use Rattle.bounds.proofs.Steps.{went-none, refused, arrived}
+use Rattle.steps.proofs.Steps.{went-none, refused, arrived}
 use Rattle.bounds.proofs.put_entries.Statement.{statement}
 use Rattle.bounds.proofs.put_entries.Tie as tie
 

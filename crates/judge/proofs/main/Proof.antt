@@ -5,33 +5,29 @@ use mathlib.Core.Path.{ap}
 use native.Mathlib.Omega.{arith}
 use borrow.Author.Needs.{needs}
 use Rattle.sheet.specs.Limits.{roomNeeded}
-use Rattle.panel.specs.Answered.{numberOf, placeOf}
-use Rattle.panel.proofs.Unique.{answer-form}
+use Rattle.promise.specs.Answered.{numberOf, placeOf}
+use Rattle.promise.proofs.Unique.{answer-form}
 use Rattle.judge.proofs.main.Statement.{statement}
 use Rattle.judge.proofs.main.Tie as tie
 
-stands : (c : tie.After-write-all2) → (8 ≤ c .before .before .before .size .given .0 .0) × (c .before .before .before .size .given .0 .0 ≤ roomNeeded)
+stands : (c : tie.After-size) → (8 ≤ c .size .given .0 .0) × (c .size .given .0 .0 ≤ roomNeeded)
 stands c =
-    let known = c .before .before .before in
-    let clash = known .size .given .1 in
-    omega (arith, answer-form (known .before .before .before .judge .ensures) (omega (arith, ap numberOf clash)), ap placeOf clash)
+    let clash = c .size .given .1 in
+    omega (arith, answer-form (c .before .before .before .judge .ensures) (omega (arith, ap numberOf clash)), ap placeOf clash)
 
-sub-print-list : tie.Need-sub-print-list
-sub-print-list c = stands c .0
+sub-print-clash : tie.Need-sub-print-clash
+sub-print-clash c = stands (c .before) .0
 
-part-print-list-start : tie.Need-part-print-list-start
-part-print-list-start c = stands (c .before) .0
+part-print-clash-start : tie.Need-part-print-clash-start
+part-print-clash-start c = stands (c .before .before) .0
 
-part-print-list-end : tie.Need-part-print-list-end
-part-print-list-end c = omega (arith, stands (c .before))
+part-print-clash-end : tie.Need-part-print-clash-end
+part-print-clash-end c = omega (arith, stands (c .before .before))
 
 pub main-spec : {M : Type 1} → statement M
 main-spec =
     tie.close
-    (tie.spec (λ c. search needs) (λ c κs. search needs) (λ c. search needs) (λ c. search needs) (λ c. search needs)
-    (λ c κs. search needs) (λ c. search needs) (λ c. search needs) (λ c κs. search needs) (λ c. search needs) (λ c. search needs)
-    (λ c. search needs) (λ c κs. search needs) sub-print-list part-print-list-start part-print-list-end (λ c κs. search needs)
-    (λ c. search needs) (λ c κs. search needs) (λ c. search needs) (λ c. search needs) (λ c κs. search needs)
-    (λ c κs. search needs) (λ c. search needs) (λ c κs. search needs) (λ c. search needs) (λ c κs. search needs)
-    (λ c κs. search needs) (λ c. search needs) (λ c κs. search needs) (λ c. search needs) (λ c κs. search needs)
-    (λ c. search needs) (λ c. search needs) (λ c. search needs))
+    (tie.spec (λ c. search needs) (λ c κs. search needs) (λ c. search needs) (λ c. search needs) (λ c. search needs) (λ c κs. search needs)
+    (λ c. search needs) (λ c. search needs) (λ c κs. search needs) (λ c. search needs) (λ c. search needs) sub-print-clash
+    part-print-clash-start part-print-clash-end (λ c κs. search needs) (λ c. search needs) (λ c κs. search needs) (λ c. search needs)
+    (λ c. search needs) (λ c. search needs))

@@ -6,7 +6,7 @@ use borrow.Author.Tests.{not-true, not-false}
 use Rattle.sheet.specs.Decode.{sheetOf}
 use Rattle.sheet.specs.Sheet.{countTerms}
 use Rattle.meaning.proofs.Decides.{refuted, told}
-use Rattle.meets.specs.Parts.{Near, Ready}
+use Rattle.keys.specs.Ready.{Near, Ready}
 use Rattle.meets.proofs.Joined.{near-of, terms-of, entries-of, met}
 use Rattle.meets.proofs.check.Statement.{statement}
 use Rattle.meets.proofs.check.Tie as tie

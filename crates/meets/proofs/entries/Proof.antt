@@ -11,9 +11,8 @@ use Rattle.order.specs.First.{marked}
 use Rattle.sheet.specs.Decode.{sheetOf}
 use Rattle.sheet.specs.Sheet.{countEntries}
 use Rattle.sheet.proofs.Below.{entry-below}
-use Rattle.meaning.proofs.Decides.{refuted}
+use Rattle.meaning.proofs.Decides.{shown, refuted}
 use Rattle.meets.specs.Parts.{EntriesMet}
-use Rattle.meets.proofs.Tests.{shown}
 use Rattle.meets.proofs.Counted.{entry-told, entries-none, entries-more}
 use Rattle.meets.proofs.entries.Statement.{statement}
 use Rattle.meets.proofs.entries.Tie as tie

@@ -6,8 +6,7 @@ use lib.ListN.{getD}
 use native.Mathlib.Omega.{arith}
 use borrow.Author.Count.{below-more}
 use borrow.Author.Needs.{needs}
-use Rattle.meaning.proofs.Decides.{refuted}
-use Rattle.meets.proofs.Tests.{shown}
+use Rattle.meaning.proofs.Decides.{shown, refuted}
 use Rattle.meets.proofs.limits.Statement.{statement}
 use Rattle.meets.proofs.limits.Tie as tie
 

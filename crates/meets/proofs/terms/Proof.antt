@@ -1,28 +1,28 @@
 -- `meets::terms` meets its contract: the terms before the counter are as the meaning asks, and their keys are kept.
 -- Assumes nothing.
 use Prim.Native.Nat.{_+_, _-_, _≤_}
-use mathlib.Core.Path.{_≡_, refl}
-use lib.ListN.{length, set, length-set}
+use mathlib.Core.Path.{refl}
+use lib.ListN.{set}
 use native.Mathlib.Omega.{arith}
 use borrow.Author.Needs.{needs}
 use borrow.Author.Tests.{not-true, not-false}
+use Rattle.sheet.specs.Limits.{maxTerms}
 use Rattle.sheet.specs.Decode.{sheetOf}
 use Rattle.sheet.specs.Sheet.{ArgumentsBelow}
 use Rattle.sheet.specs.Says.{termSays}
 use Rattle.sheet.proofs.Below.{arguments-wider}
-use Rattle.meaning.proofs.Decides.{refuted}
-use Rattle.meets.specs.Parts.{Ready, TermsMet, Shelved}
-use Rattle.meets.proofs.Tests.{shown}
-use Rattle.meets.proofs.Rows.{shelved-none, shelved-kept}
-use Rattle.meets.proofs.Keyed.{Keyed, keyed-none, keyed-more, row-functional, functional-row}
+use Rattle.meaning.proofs.Decides.{shown, refuted}
+use Rattle.keys.specs.Ready.{Ready}
+use Rattle.shelves.proofs.Rows.{shelved-kept}
+use Rattle.meets.specs.Parts.{TermsMet}
+use Rattle.meets.proofs.Keyed.{Keyed, Kept, keyed-more, kept-none, kept-more, row-functional, functional-row}
 use Rattle.meets.proofs.Counted.{term-told, terms-none, terms-more}
 use Rattle.meets.proofs.terms.Statement.{statement}
 use Rattle.meets.proofs.terms.Tie as tie
 
 abbrev Inv-loop : tie.InvT-loop
 Inv-loop sheet d v t one₀ two₀ shelves₀ i₀ one two shelves i =
-    (i ≤ t) × (t ≤ 64) × (length one ≡ 64) × (length two ≡ 64) × Keyed (sheetOf sheet) v one two i × TermsMet (sheetOf sheet) d v i ×
-    (length shelves ≡ 256) × Shelved one shelves i
+    (i ≤ t) × (t ≤ maxTerms) × Kept (sheetOf sheet) v one two shelves i × TermsMet (sheetOf sheet) d v i
 
 abbrev μ-loop : tie.MeasureT-loop
 μ-loop sheet d v t one₀ two₀ shelves₀ i₀ one two shelves i = t - i
@@ -47,13 +47,13 @@ keyed : (c : tie.After-second-key Inv-loop μ-loop) →
 keyed c =
     let read = c .before .before .before .before in
     let loop = read .before .before in
-    keyed-more (omega arith) (omega arith) (loop .loop .inv .4) (loop .before .count-terms .ensures .0) (read .term-at .ensures)
+    keyed-more (omega arith) (omega arith) (loop .loop .inv .2 .keyed) (loop .before .count-terms .ensures .0) (read .term-at .ensures)
     (c .before .first-key .ensures) (c .second-key .ensures)
 
 loop-holds : tie.Need-loop-holds Inv-loop μ-loop
 loop-holds c =
     let pre = c .before .before .before .pre in
-    (omega arith, omega (arith, c .count-terms .ensures .0, pre .0 .1 .terms), search needs, search needs, keyed-none, terms-none, refl, shelved-none)
+    (omega arith, omega (arith, c .count-terms .ensures .0, pre .0 .1 .terms), kept-none refl refl refl, terms-none)
 
 defined-requires : tie.Need-defined-requires Inv-loop μ-loop
 defined-requires c κs =
@@ -73,20 +73,22 @@ returns c =
 row-requires : tie.Need-row-requires Inv-loop μ-loop
 row-requires c κs =
     let loop = c .before .before .before .before .before .before .before .before .before .loop in
-    (omega arith, omega arith, loop .inv .6, shelved-kept _ (loop .inv .7))
+    let kept = loop .inv .2 in
+    (omega arith, omega arith, kept .shelf, shelved-kept _ (kept .shelved))
 
 returns-2 : tie.Need-returns-2 Inv-loop μ-loop
 returns-2 c =
-    let kept = c .before .before .before .before .before .before in
-    let loop = kept .before .before .before .before .before .before in
+    let keys = c .before .before .before .before .before in
+    let loop = keys .before .before .before .before .before .before in
     let pre = loop .before .before .before .before .pre in
-    refuted (λ m. c .before .before .row .ensures .0 .no (not-true _ (c .if2 .taken))
-    (functional-row (keyed kept) (pre .0 .1) (pre .1 .1 .near) (omega arith) (m .functions (loop .loop .i) (omega arith))))
+    refuted (λ m. c .before .row .ensures .0 .no (not-true _ (c .if2 .taken))
+    (functional-row (keyed keys) (pre .0 .1) (pre .1 .1 .near) (omega arith) (m .functions (loop .loop .i) (omega arith))))
 
 loop-again : tie.Need-loop-again Inv-loop μ-loop
 loop-again c =
-    let kept = c .before .before .before .before .before .before in
-    let test = kept .before .before in
+    let row = c .before .row .ensures in
+    let keys = c .before .before .before .before .before in
+    let test = keys .before .before in
     let read = test .before .before in
     let loop = read .before .before in
     let args = loop .before .before .before .before .args in
@@ -94,24 +96,19 @@ loop-again c =
     (loop .before .count-terms .ensures .0) (read .term-at .ensures) (test .before .defined .ensures) in (
       omega arith,
       loop .loop .inv .1,
-      simp length-set (loop .loop .inv .2),
-      simp length-set (loop .loop .inv .3),
-      keyed kept,
-      terms-more (loop .loop .inv .5) (own .yes (not-false _ (test .if1 .left)))
-          (row-functional (keyed kept) (c .before .before .row .ensures .0 .yes (not-false _ (c .if2 .left)))),
-      omega arith,
-      c .before .before .row .ensures .1,
+      kept-more (keys .before .first-key .result) (keys .second-key .result) (loop .loop .inv .2) (keyed keys) (row .1),
+      terms-more (loop .loop .inv .3) (own .yes (not-false _ (test .if1 .left)))
+          (row-functional (keyed keys) (row .0 .yes (not-false _ (c .if2 .left)))),
     )
 
 returns-3 : tie.Need-returns-3 Inv-loop μ-loop
 returns-3 c =
-    let loop = c .before in
-    let t = loop .before .count-terms .ensures .0 in
-    shown (record { defined = λ i l. loop .loop .inv .5 .defined i (omega arith); functions = λ i l. loop .loop .inv .5 .functions i (omega arith) })
+    let met = c .before .loop .inv .3 in
+    shown (record { defined = λ i l. met .defined i (omega arith); functions = λ i l. met .functions i (omega arith) })
 
 pub terms-spec : {M : Type 1} → statement M
 terms-spec =
     tie.close
     (tie.spec Inv-loop μ-loop (λ c κs. search needs) loop-holds (λ c. search needs) (λ c κs. search needs) defined-requires returns
     (λ c κs. asked (c .before .before)) (λ c. search needs) (λ c. search needs) (λ c κs. asked (c .before .before .before)) (λ c. search needs)
-    (λ c. search needs) (λ c. search needs) row-requires returns-2 (λ c. search needs) (λ c. search needs) loop-again returns-3)
+    (λ c. search needs) row-requires returns-2 (λ c. search needs) (λ c. search needs) loop-again returns-3)

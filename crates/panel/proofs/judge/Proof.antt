@@ -3,8 +3,8 @@
 use mathlib.Core.Path.{sym, ap, _∙_}
 use borrow.Author.Needs.{needs}
 use Rattle.refusal.specs.Says.{checkSays}
-use Rattle.refusal.proofs.Fine.{fine-formed}
-use Rattle.refusal.proofs.Replies.{fine-sheet}
+use Rattle.grounds.proofs.Fine.{fine-formed}
+use Rattle.grounds.proofs.Replies.{fine-sheet}
 use Rattle.panel.proofs.Join.{answered-refused, answered-decided}
 use Rattle.panel.proofs.judge.Statement.{statement}
 use Rattle.panel.proofs.judge.Tie as tie

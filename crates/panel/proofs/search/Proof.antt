@@ -5,7 +5,7 @@ use mathlib.Core.Logic.{inl, inr}
 use native.Mathlib.Omega.{arith}
 use borrow.Author.Needs.{needs}
 use Rattle.verdict.specs.Judged.{numberOf}
-use Rattle.panel.proofs.Listing.{within-short}
+use Rattle.promise.proofs.Listing.{within-short}
 use Rattle.panel.proofs.Join.{says-holds, all-clash, says-clashes}
 use Rattle.panel.proofs.search.Statement.{statement}
 use Rattle.panel.proofs.search.Tie as tie

@@ -3,7 +3,7 @@
 use mathlib.Core.Path.{sym, ap, _∙_}
 use borrow.Author.Needs.{needs}
 use Rattle.refusal.specs.Says.{checkSays}
-use Rattle.refusal.proofs.Rows.{refused-already, row15, all-fine}
+use Rattle.grounds.proofs.Rows.{refused-already, row15, all-fine}
 use Rattle.refusal.proofs.check.Statement.{statement}
 use Rattle.refusal.proofs.check.Tie as tie
 

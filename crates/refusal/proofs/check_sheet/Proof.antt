@@ -9,9 +9,10 @@ use borrow.Author.Needs.{needs}
 use borrow.Author.Tests.{eq-eqb, ne-eqb}
 use denote.Ref.{now}
 use Rattle.sheet.specs.Decode.{Sized}
-use Rattle.refusal.specs.Table.{wrongLength, wrongVersion, wrongShape, sheetRefusal}
-use Rattle.refusal.proofs.Fine.{length-fine, shape-fine}
-use Rattle.refusal.proofs.Rows.{row13, row14, no-row}
+use Rattle.grounds.specs.Rows.{wrongLength, wrongVersion, wrongShape}
+use Rattle.grounds.proofs.Passed.{length-fine, shape-fine}
+use Rattle.grounds.specs.Table.{sheetRefusal}
+use Rattle.grounds.proofs.Rows.{row13, row14, no-row}
 use Rattle.refusal.proofs.check_sheet.Statement.{statement}
 use Rattle.refusal.proofs.check_sheet.Tie as tie
 
@@ -50,42 +51,45 @@ returns-3 : tie.Need-returns-3
 unfolding sheetRefusal
 returns-3 c = rw (not10 (c .before .before .before .before), not11 (c .before .before), sym (c .before .wrong-shape .ensures) ∙ c .if3 .taken)
 
-lowest-wrong-requires : tie.Need-lowest-wrong-requires
-lowest-wrong-requires c κs = sized c
+wrong-term-requires : tie.Need-wrong-term-requires
+wrong-term-requires c κs = sized c
 
 shared-slice-read-if4 : tie.Need-shared-slice-read-if4
 shared-slice-read-if4 c = omega (arith, six (c .before .before .before .before .before .before))
 
 returns-4 : tie.Need-returns-4
 returns-4 c =
-    let shaped = c .before .before .before in
+    let looked = c .before .before .before in
+    let shaped = looked .before in
     let versioned = shaped .before .before in
-    row13 _ (not10 (versioned .before .before)) (not11 versioned) (not12 shaped) _ (c .before .before .lowest-wrong .ensures) (c .if4 .taken)
+    row13 _ (not10 (versioned .before .before)) (not11 versioned) (not12 shaped) _ (looked .wrong-term .ensures) (c .if4 .taken)
 
-lowest-wrong-requires-2 : tie.Need-lowest-wrong-requires-2
-lowest-wrong-requires-2 c κs = sized (c .before .before .before)
+wrong-entry-requires : tie.Need-wrong-entry-requires
+wrong-entry-requires c κs = sized (c .before .before .before .before)
 
 shared-slice-read-if5 : tie.Need-shared-slice-read-if5
-shared-slice-read-if5 c = omega (arith, six (c .before .before .before .before .before .before .before .before .before))
+shared-slice-read-if5 c = omega (arith, six (c .before .before .before .before .before .before .before .before .before .before))
 
 returns-5 : tie.Need-returns-5
 returns-5 c =
-    let formed = c .before .before .before in
-    let shaped = formed .before .before .before in
+    let formed = c .before .before .before .before in
+    let looked = formed .before .before .before in
+    let shaped = looked .before in
     let versioned = shaped .before .before in
-    row14 _ (not10 (versioned .before .before)) (not11 versioned) (not12 shaped) _ (formed .before .before .lowest-wrong .ensures) (formed .if4 .left)
-    _ (c .before .before .lowest-wrong2 .ensures) (c .if5 .taken)
+    row14 _ (not10 (versioned .before .before)) (not11 versioned) (not12 shaped) _ (looked .wrong-term .ensures) (formed .if4 .left)
+    _ (c .before .before .before .wrong-entry .ensures) (c .if5 .taken)
 
 returns-6 : tie.Need-returns-6
 returns-6 c =
-    let formed = c .before .before .before in
-    let shaped = formed .before .before .before in
+    let formed = c .before .before .before .before in
+    let looked = formed .before .before .before in
+    let shaped = looked .before in
     let versioned = shaped .before .before in
-    no-row _ (not10 (versioned .before .before)) (not11 versioned) (not12 shaped) _ (formed .before .before .lowest-wrong .ensures) (formed .if4 .left)
-    _ (c .before .before .lowest-wrong2 .ensures) (c .if5 .left)
+    no-row _ (not10 (versioned .before .before)) (not11 versioned) (not12 shaped) _ (looked .wrong-term .ensures) (formed .if4 .left)
+    _ (c .before .before .before .wrong-entry .ensures) (c .if5 .left)
 
 pub check-sheet-spec : {M : Type 1} → statement M
 check-sheet-spec =
     tie.close
-    (tie.spec (λ c κs. search needs) returns shared-slice-read-if2 returns-2 wrong-shape-requires returns-3 lowest-wrong-requires
-    shared-slice-read-if4 returns-4 lowest-wrong-requires-2 shared-slice-read-if5 returns-5 returns-6)
+    (tie.spec (λ c κs. search needs) returns shared-slice-read-if2 returns-2 wrong-shape-requires returns-3 wrong-term-requires
+    shared-slice-read-if4 returns-4 wrong-entry-requires shared-slice-read-if5 returns-5 returns-6)

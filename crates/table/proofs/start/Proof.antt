@@ -8,8 +8,9 @@ use native.Mathlib.Omega.{arith}
 use native.Mathlib.Decide.{decLt}
 use borrow.Author.Count.{below-more}
 use Rattle.closure.proofs.Table.{fresh}
-use Rattle.gap.specs.Code.{base, none}
-use Rattle.table.specs.Cells.{stride, cell, RowStarted, Started}
+use Rattle.kind.specs.Code.{base, none}
+use Rattle.cells.specs.Cells.{stride, cell, RowStarted}
+use Rattle.table.specs.Inserted.{Started}
 use Rattle.table.proofs.start.Statement.{statement}
 use Rattle.table.proofs.start.Tie as tie
 

@@ -7,7 +7,7 @@ use lib.ListN.{getD}
 use native.Mathlib.Omega.{arith}
 use borrow.Author.Count.{below-more}
 use borrow.Author.Needs.{needs}
-use Rattle.table.specs.Cells.{cell}
+use Rattle.cells.specs.Cells.{cell}
 use Rattle.sheet.specs.Decode.{sheetOf}
 use Rattle.sheet.specs.Sheet.{countEntries, entryAt}
 use Rattle.ties.specs.Ties.{Broken}

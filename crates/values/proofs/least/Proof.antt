@@ -4,9 +4,9 @@ use Prim.Native.Nat.{_-_, _≤_}
 use mathlib.Core.Path.{_≡_, _∙_, ap}
 use native.Mathlib.Omega.{arith}
 use borrow.Author.Needs.{needs}
-use Rattle.gap.specs.Code.{half}
+use Rattle.kind.specs.Code.{half}
 use Rattle.levels.specs.Level.{wholeAt, leastOf}
-use Rattle.table.specs.Cells.{cell}
+use Rattle.cells.specs.Cells.{cell}
 use Rattle.values.proofs.Loops.{least-none, least-more}
 use Rattle.values.proofs.least.Statement.{statement}
 use Rattle.values.proofs.least.Tie as tie

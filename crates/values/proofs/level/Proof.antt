@@ -5,10 +5,10 @@ use mathlib.Core.Path.{_≡_, _∙_, ap, ap₂}
 use native.Mathlib.Nat.{mul-le-mul}
 use native.Mathlib.Omega.{arith}
 use borrow.Author.Needs.{needs}
-use Rattle.gap.specs.Code.{none}
+use Rattle.kind.specs.Code.{none}
 use Rattle.closure.specs.Table.{reach}
 use Rattle.levels.specs.Level.{sumTo, termOf, otherOf, lowestOf, levelOf}
-use Rattle.table.specs.Cells.{stride, cell}
+use Rattle.cells.specs.Cells.{stride, cell}
 use Rattle.values.proofs.level.Statement.{statement}
 use Rattle.values.proofs.level.Tie as tie
 

@@ -10,7 +10,7 @@ use borrow.Author.Count.{below-more}
 use borrow.Author.Needs.{needs}
 use Rattle.closure.specs.Table.{reach}
 use Rattle.levels.specs.Level.{levelOf}
-use Rattle.table.specs.Cells.{cell}
+use Rattle.cells.specs.Cells.{cell}
 use Rattle.values.proofs.levels.Statement.{statement}
 use Rattle.values.proofs.levels.Tie as tie
 

@@ -6,11 +6,11 @@ use mathlib.Core.Bool.{Bool, true, false, cond}
 use native.Mathlib.Nat.{sub-zero}
 use native.Mathlib.Omega.{arith}
 use borrow.Author.Needs.{needs}
-use Rattle.gap.specs.Code.{none}
+use Rattle.kind.specs.Code.{none}
 use Rattle.closure.specs.Closed.{tie, tieOf}
 use Rattle.closure.proofs.Ties.{tie-tied}
 use Rattle.levels.specs.Level.{first, lowestOf}
-use Rattle.table.specs.Cells.{cell}
+use Rattle.cells.specs.Cells.{cell}
 use Rattle.values.proofs.Loops.{first-here, first-on, first-end}
 use Rattle.values.proofs.lowest.Statement.{statement}
 use Rattle.values.proofs.lowest.Tie as tie

@@ -4,9 +4,9 @@ use Prim.Native.Nat.{_*_, _-_, _≤_}
 use mathlib.Core.Path.{_≡_, _∙_, ap}
 use native.Mathlib.Omega.{arith}
 use borrow.Author.Needs.{needs}
-use Rattle.gap.specs.Code.{none}
+use Rattle.kind.specs.Code.{none}
 use Rattle.levels.specs.Level.{sumTo, termOf}
-use Rattle.table.specs.Cells.{cell}
+use Rattle.cells.specs.Cells.{cell}
 use Rattle.values.proofs.Loops.{sum-none, sum-more}
 use Rattle.values.proofs.total.Statement.{statement}
 use Rattle.values.proofs.total.Tie as tie

@@ -2,7 +2,7 @@
 -- Assumes nothing.
 use native.Mathlib.Omega.{arith}
 use borrow.Author.Needs.{needs}
-use Rattle.gap.proofs.Kind.{with-kind, kind-strict-of}
+use Rattle.kind.proofs.Kind.{with-kind, kind-strict-of}
 use Rattle.gap.proofs.Gap.strict.Statement.{statement}
 use Rattle.gap.proofs.Gap.strict.Tie as tie
 

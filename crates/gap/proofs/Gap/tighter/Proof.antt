@@ -1,7 +1,7 @@
 -- `gap::Gap::tighter` meets its contract: the lesser code is the tighter gap.
 -- Assumes nothing.
 use native.Mathlib.Omega.{arith}
-use Rattle.gap.proofs.Kind.{with-kind, kind-tighter}
+use Rattle.kind.proofs.Kind.{with-kind, kind-tighter}
 use Rattle.gap.proofs.Gap.tighter.Statement.{statement}
 use Rattle.gap.proofs.Gap.tighter.Tie as tie
 

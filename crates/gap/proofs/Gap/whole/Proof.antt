@@ -2,7 +2,7 @@
 -- Assumes nothing.
 use native.Mathlib.Omega.{arith}
 use borrow.Author.Needs.{needs}
-use Rattle.gap.proofs.Kind.{with-kind, kind-whole}
+use Rattle.kind.proofs.Kind.{with-kind, kind-whole}
 use Rattle.gap.proofs.Gap.whole.Statement.{statement}
 use Rattle.gap.proofs.Gap.whole.Tie as tie
 

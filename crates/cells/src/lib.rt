@@ -1,0 +1,133 @@
+// The cells of a table in a lent slice: a gap read, a row taken out by value, filled, started, relaxed.
+// It rests on the gap kind alone, and promises of each call which cells it changes and that it leaves all others as they are.
+ghost use mathlib.Core.Path.{_≡_};
+ghost use Prim.Native.Nat.{ℕ, _+_, _≤_, _<_};
+ghost use lib.ListN.{length, getD};
+ghost use Rattle.kind.specs.Code.{none, sumOf, tighterOf, Addable};
+ghost use Rattle.cells.specs.Cells.{stride, cells, cell, Filled, RowStarted, RowRelaxed};
+use gap::Gap;
+
+// The most points: a sheet's terms and the zero level.
+pub const STRIDE: usize = 65;
+
+pub const CELLS: usize = STRIDE * STRIDE;
+
+// The gap from i to j.
+pub fn gap_at(d: &[u32], i: usize, j: usize) -> Gap
+    requires { ⌜ (length (now d) ≡ cells) × (i < stride) × (j < stride) ⌝ }
+    ensures { λ r. ⌜ r .0 ≡ cell (now (d .entry)) i j ⌝ }
+{
+    Gap(d[i * STRIDE + j])
+}
+
+// The row of a point that no bound names: no gap to any of n points but itself.
+pub fn start_row(d: &mut [u32], i: usize, n: usize)
+    requires { ⌜ (length (now d) ≡ cells) × (i < n) × (n ≤ stride) ⌝ }
+    ensures { λ _. ⌜ RowStarted (now (d .entry)) (now (d .exit)) i n ⌝ }
+{
+    let at = i * STRIDE;
+    fill(d, at, n);
+    d[at + i] = Gap::ZERO.0;
+}
+
+// No gap in n cells from at on.
+fn fill(d: &mut [u32], at: usize, n: usize)
+    requires { ⌜ (at + n ≤ length (now d)) ⌝ }
+    ensures { λ _. ⌜ Filled (now (d .entry)) (now (d .exit)) at n ⌝ }
+{
+    let mut j = 0;
+    while j < n {
+        d[at + j] = Gap::NONE.0;
+        j += 1;
+    }
+}
+
+// Row b, by value: the rows are relaxed by it while the table changes.
+pub fn row_of(d: &[u32], b: usize) -> [u32; STRIDE]
+    requires { ⌜ (length (now d) ≡ cells) × (b < stride) ⌝ }
+    ensures { λ r. ⌜ ((j : ℕ) → j < stride → getD r j 0 ≡ cell (now (d .entry)) b j) ⌝ }
+{
+    let mut row = [0u32; STRIDE];
+    let at = b * STRIDE;
+    let mut j = 0;
+    while j < STRIDE {
+        row[j] = d[at + j];
+        j += 1;
+    }
+    row
+}
+
+// The first of n columns to which the row has a gap, or n.
+pub fn first_there(row: &[u32; STRIDE], n: usize) -> usize
+    requires { ⌜ n ≤ stride ⌝ }
+    ensures { λ r. ⌜ (r ≤ n) × ((j : ℕ) → j < r → none ≤ getD (now (row .entry)) j 0) ⌝ }
+{
+    let mut k = 0;
+    while k < n {
+        if row[k] < Gap::NONE.0 {
+            return k;
+        }
+        k += 1;
+    }
+    n
+}
+
+// One past the last, or from where there is none from there on.
+pub fn past_there(row: &[u32; STRIDE], from: usize, n: usize) -> usize
+    requires { ⌜ (from ≤ n) × (n ≤ stride) ⌝ }
+    ensures { λ r. ⌜ (from ≤ r) × (r ≤ n) × ((j : ℕ) → r ≤ j → j < n → none ≤ getD (now (row .entry)) j 0) ⌝ }
+{
+    let mut k = n;
+    while from < k {
+        if row[k - 1] < Gap::NONE.0 {
+            return k;
+        }
+        k -= 1;
+    }
+    k
+}
+
+// The cells of row i between two columns become the tighter of what they are and the sum of via and the row's cell.
+// Where the cell at b isn't improved, no cell of the row is.
+pub fn relax_row(
+    d: &mut [u32],
+    i: usize,
+    b: usize,
+    via: Gap,
+    row: &[u32; STRIDE],
+    from: usize,
+    to: usize,
+)
+    requires { ⌜ (length (now d) ≡ cells) × (i < stride) × (b < stride) × (from ≤ to) × (to ≤ stride) ⌝ }
+    requires { ⌜ ((j : ℕ) → from ≤ j → j < to → Addable (via .0) (getD (now row) j 0)) ⌝ }
+    requires { ⌜ (cell (now d) i b ≤ via .0 → (j : ℕ) → from ≤ j → j < to → cell (now d) i j ≤ sumOf (via .0) (getD (now row) j 0)) ⌝ }
+    ensures { λ _. ⌜ RowRelaxed (now (d .entry)) (now (d .exit)) (now (row .entry)) i (via .0) from to ⌝ }
+{
+    if gap_at(d, i, b).0 <= via.0 {
+        return;
+    }
+    relax_cells(d, i, via, row, from, to);
+}
+
+// The same, whatever the cell at b: one loop, and no test in it.
+fn relax_cells(d: &mut [u32], i: usize, via: Gap, row: &[u32; STRIDE], from: usize, to: usize)
+    requires { ⌜ (length (now d) ≡ cells) × (i < stride) × (from ≤ to) × (to ≤ stride) ⌝ }
+    requires { ⌜ ((j : ℕ) → from ≤ j → j < to → Addable (via .0) (getD (now row) j 0)) ⌝ }
+    ensures { λ _. ⌜ RowRelaxed (now (d .entry)) (now (d .exit)) (now (row .entry)) i (via .0) from to ⌝ }
+{
+    let at = i * STRIDE;
+    let mut j = from;
+    while j < to {
+        let k = at + j;
+        d[k] = relaxed(d[k], via, row[j]);
+        j += 1;
+    }
+}
+
+// The tighter of a gap and the way through another point.
+fn relaxed(was: u32, via: Gap, on: u32) -> u32
+    requires { ⌜ Addable (via .0) on ⌝ }
+    ensures { λ r. ⌜ r ≡ tighterOf was (sumOf (via .0) on) ⌝ }
+{
+    Gap(was).tighter(via.sum(Gap(on))).0
+}

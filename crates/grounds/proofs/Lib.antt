@@ -1,0 +1,5 @@
+pub mod Lowest
+pub mod Passed
+pub mod Rows
+pub mod Replies
+pub mod Fine

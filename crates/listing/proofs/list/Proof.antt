@@ -1,0 +1,56 @@
+-- `listing::list` meets its contract. The loop's invariant: the k bytes from byte 8 on list the marked entries below x, and the rest is as it was.
+-- Assumes nothing.
+use Prim.Native.Nat.{ℕ, _+_, _-_, _≤_}
+use mathlib.Core.Path.{_≡_, refl, _∙_}
+use mathlib.Core.Logic.{⊎-elim}
+use mathlib.Core.List.{List}
+use lib.ListN.{length, set, drop, length-set, length-drop}
+use lib.Seq.{getD-set-other, drop-set-add}
+use native.Mathlib.Omega.{arith}
+use Rattle.big.specs.Big.{Kept}
+use Rattle.order.specs.First.{marked, Listed}
+use Rattle.order.proofs.Lists.{listed-none, listed-in, listed-out}
+use Rattle.listing.proofs.list.Statement.{statement}
+use Rattle.listing.proofs.list.Tie as tie
+
+kept-more : {old b : List ℕ} {k : ℕ} (x : ℕ) → Kept old b 8 k → Kept old (set b (8 + k) x) 8 (k + 1)
+kept-more {old} {b} {k} x K = record {
+  before = λ i h. getD-set-other b (8 + k) i x 0 (omega arith) ∙ K .before i h;
+  after = λ i h. getD-set-other b (8 + k) i x 0 (omega arith) ∙ K .after i (omega arith);
+}
+
+abbrev Inv-loop : tie.InvT-loop
+Inv-loop m n b₀ k₀ x₀ b k x =
+    (k ≤ x) × (x ≤ n) × (length b ≡ length b₀) × Listed x (marked m) (drop 8 b) k × Kept b₀ b 8 k
+
+abbrev μ-loop : tie.MeasureT-loop
+μ-loop m n b₀ k₀ x₀ b k x = n - x
+
+loop-holds : tie.Need-loop-holds Inv-loop μ-loop
+loop-holds c = (omega arith, omega arith, refl, listed-none _ _, record { before = λ i h. refl; after = λ i h. refl })
+
+loop-again : tie.Need-loop-again Inv-loop μ-loop
+loop-again c =
+    let loop = c .before .before .before .loop in
+    ⊎-elim
+    (λ w. rw (w .1, w .2) (
+      omega arith,
+      omega arith,
+      simp length-set (omega arith),
+      rw (drop-set-add 8 (loop .room) (loop .k) (loop .x)) (listed-in _ (drop 8 (loop .room)) (loop .x) (loop .k) (w .0 .taken) (simp length-drop (omega arith)) (loop .inv .3)),
+      kept-more (loop .x) (loop .inv .4),
+    ))
+    (λ w. rw (w .1, w .2) (omega arith, omega arith, loop .inv .2, listed-out _ (drop 8 (loop .room)) (loop .x) (loop .k) (w .0 .left) (loop .inv .3), loop .inv .4))
+    (c .if1 .came)
+
+returns : tie.Need-returns Inv-loop μ-loop
+returns c =
+    let loop = c .before .loop in
+    let e : loop .x ≡ c .before .before .args .n = omega arith in
+    (omega arith, (rw e at (loop .inv .3), loop .inv .4))
+
+pub list-spec : {M : Type 1} → statement M
+list-spec =
+    tie.close
+    (tie.spec Inv-loop μ-loop loop-holds (λ c. omega arith) (λ c. omega arith) (λ c. omega arith) (λ c. omega arith) (λ c. omega arith)
+    (λ c. omega arith) (λ c. omega arith) loop-again (λ c. omega arith) returns)

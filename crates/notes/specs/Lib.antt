@@ -1,0 +1,3 @@
+pub mod Limits
+pub mod Search
+pub mod Noted

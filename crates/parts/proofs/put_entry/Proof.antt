@@ -1,0 +1,42 @@
+-- `parts::put_entry` meets its contract, relation by relation (proofs/Parts.antt).
+-- Assumes nothing.
+use native.Mathlib.Omega.{arith}
+use borrow.Author.Needs.{needs}
+use Rattle.steps.proofs.Parts.{at-most-put, less-put}
+use Rattle.steps.proofs.Steps.{changed, stayed}
+use Rattle.parts.proofs.put_entry.Statement.{statement}
+use Rattle.parts.proofs.put_entry.Tie as tie
+
+enum-told : tie.Need-enum-told
+enum-told c = search needs
+
+returns : tie.Need-returns
+returns c =
+    let called = c .before .before in
+    rw (called .before .before .enum-told .given .1) (changed (λ D v q. record { tied = q }) (λ d h. h) (called .put-tie .ensures))
+
+returns-2 : tie.Need-returns-2
+returns-2 c = rw (c .enum-told2 .given .1) (stayed (c .before .before .before .before .before .pre .1) tt)
+
+returns-3 : tie.Need-returns-3
+returns-3 c =
+    let called = c .before .before in
+    let told = called .before .before .before in
+    let start = told .before .before .before .before .before in
+    rw (told .enum-told3 .given .1)
+    (at-most-put _ (omega arith) (omega arith) (start .pre .1) (called .before .to .ensures) (called .insert .ensures))
+
+returns-4 : tie.Need-returns-4
+returns-4 c =
+    let called = c .before .before in
+    let told = called .before .before .before in
+    let start = told .before .before .before .before .before in
+    rw (told .enum-told4 .given .1)
+    (less-put _ (omega arith) (omega arith) (start .pre .1) (called .before .under .ensures) (called .insert2 .ensures))
+
+pub put-entry-spec : {M : Type 1} → statement M
+put-entry-spec =
+    tie.close
+    (tie.spec (λ c. search needs) (λ c. search needs) enum-told (λ c κs. search needs) (λ c. search needs) (λ c. search needs)
+    (λ c κs. search needs) (λ c κs. search needs) (λ c. search needs) (λ c κs. search needs) (λ c κs. search needs)
+    (λ c. search needs) returns returns-2 (λ c. search needs) returns-3 (λ c. search needs) returns-4)

@@ -1,0 +1,3 @@
+pub mod Tests
+pub mod Values
+pub mod Arms
