@@ -1,6 +1,6 @@
-//! The shortcuts that pass bad sheets, to show that a tester of panels bites.
+//! The shortcuts that pass bad sheets, and one that fails good ones, to show that a tester of panels bites.
 //!
-//! Rests on "Shortcuts that pass bad sheets".
+//! Rests on "Shortcuts that pass bad sheets", and the last one on "with the same symbol".
 
 /// A way to be wrong.
 #[derive(Clone, Copy, Debug, PartialEq, Eq)]
@@ -21,11 +21,13 @@ pub enum Shortcut {
     MetLast,
     /// Writes values in which untied terms may be level.
     Level,
+    /// Takes functions with as many arguments for one, whatever their symbols.
+    AnySymbol,
 }
 
 impl Shortcut {
-    /// Every shortcut, in the document's order.
-    pub const ALL: [Shortcut; 8] = [
+    /// Every shortcut, those of the document in its order.
+    pub const ALL: [Shortcut; 9] = [
         Shortcut::Apart,
         Shortcut::Once,
         Shortcut::OneHalf,
@@ -34,6 +36,7 @@ impl Shortcut {
         Shortcut::Fewest,
         Shortcut::MetLast,
         Shortcut::Level,
+        Shortcut::AnySymbol,
     ];
 
     /// The name on the command line.
@@ -47,6 +50,7 @@ impl Shortcut {
             Shortcut::Fewest => "fewest",
             Shortcut::MetLast => "met-last",
             Shortcut::Level => "level",
+            Shortcut::AnySymbol => "any-symbol",
         }
     }
 

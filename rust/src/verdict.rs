@@ -131,7 +131,11 @@ impl Judge {
         } else {
             a
         };
-        let function = u16::from_be_bytes([term.kind, term.symbol]);
+        let symbol = match self.shortcut {
+            Some(Shortcut::AnySymbol) => 0,
+            _ => term.symbol,
+        };
+        let function = u16::from_be_bytes([term.kind, symbol]);
         let point = self
             .functions
             .point(Application { function, a, b }, self.points);

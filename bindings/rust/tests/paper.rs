@@ -111,7 +111,9 @@ fn every_sheet_as_expected() {
     for row in expected.lines() {
         let mut fields = row.split('\t');
         let name = fields.next().unwrap();
-        let sheet = fs::read(format!("{sheets}/{name}.sheet")).unwrap();
+        let mut sheet = fs::read(format!("{sheets}/{name}.sheet")).unwrap();
+        // as much as the program reads, for which the lines are
+        sheet.truncate(775);
         let mut room = [0xAA; ROOM_NEEDED];
         let line = match judge(&sheet, &mut room) {
             Answer::Holds(_) => "holds".to_string(),
