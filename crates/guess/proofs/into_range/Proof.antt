@@ -1,7 +1,7 @@
 -- `guess::into_range` meets its contract: after i turns, the first i levels are in the range.
 -- Assumes nothing.
-use Prim.Native.Nat.{ℕ, zero, suc, _+_, _-_, _%_, _^_, _≤_, _<_}
-use mathlib.Core.Path.{_≡_, refl, _∙_}
+use Prim.Native.Nat.{ℕ, zero, suc, _+_, _-_, _^_, _≤_, _<_}
+use mathlib.Core.Path.{_≡_, refl}
 use mathlib.Core.List.{List, [], _∷_}
 use lib.ListN.{length, getD, set, length-set}
 use lib.Seq.{getD-set-other}
@@ -31,9 +31,8 @@ loop-holds c = (omega arith, refl, λ k l. absurd (omega arith))
 
 loop-again : tie.Need-loop-again Inv-loop μ-loop
 loop-again c =
-    let head = c .before .before in
-    let x = getD (head .loop .v) (head .loop .i) 0 % 2 ^ 44 in
-    (omega arith, length-set (head .loop .v) (head .loop .i) x ∙ head .loop .inv .1, more (head .loop .v) (head .loop .i) x (omega arith) (head .loop .inv .2))
+    let loop = c .before .before .loop in
+    (omega arith, simp length-set (loop .inv .1), more (loop .v) (loop .i) _ (omega arith) (loop .inv .2))
 
 returns : tie.Need-returns Inv-loop μ-loop
 returns c = (λ i l. c .before .loop .inv .2 i (omega arith), c .before .loop .inv .1)
