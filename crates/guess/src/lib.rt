@@ -11,10 +11,10 @@ ghost use Rattle.sheet.specs.Sheet.{WellFormed, countEntries};
 ghost use Rattle.meets.specs.Met.{Met};
 ghost use Rattle.notes.specs.Limits.{places};
 ghost use Rattle.notes.specs.Search.{Worked};
-use lowering::level;
+use notes::MEMORY;
 
 // The denominator, and places for levels.
-pub const D: u64 = notes::D;
+pub const D: u64 = notes::D as u64;
 
 pub const PLACES: usize = notes::PLACES;
 
@@ -22,39 +22,40 @@ pub const PLACES: usize = notes::PLACES;
 pub fn values(sheet: &[u8], set: &[bool], v: &mut [u64; PLACES]) -> bool
     requires { ⌜ Sized (now sheet) × WellFormed (sheetOf (now sheet)) ⌝ }
     requires { ⌜ countEntries (sheetOf (now sheet)) ≤ length (now set) ⌝ }
-    ensures met { λ r. ⌜ (r ≡ true → Met (sheetOf (now (sheet .entry))) (marked (now (set .entry))) 65535 (now (v .exit))) ⌝ }
+    ensures met { λ r. ⌜ (r ≡ true → Met (sheetOf (now (sheet .entry))) (marked (now (set .entry))) 64512 (now (v .exit))) ⌝ }
     ensures worked { λ _. ⌜ Worked (now (v .entry)) (now (v .exit)) ⌝ }
 {
     let n = reading::count_terms(sheet) + 1;
-    start(v, n);
-    if !search::search(sheet, set, v, n) {
+    let mut m = [0usize; MEMORY];
+    start(&mut m, n);
+    if !search::search(&mut m, n, sheet, set) {
         return false;
     }
-    into_range(v, n);
+    take(&m, v, n);
     meets::check(sheet, set, D, v)
 }
 
 // Levels apart from each other by a number prime to D, and far from both ends of their range.
-fn start(v: &mut [u64; PLACES], n: usize)
+fn start(m: &mut [usize; MEMORY], n: usize)
     requires { ⌜ n ≤ places ⌝ }
-    ensures { λ _. ⌜ Worked (now (v .entry)) (now (v .exit)) ⌝ }
+    ensures { λ _. ⌜ Worked (now (m .entry)) (now (m .exit)) ⌝ }
 {
     let mut i = 0;
     while i < n {
-        v[i] = 1099511627776 + 1009 * (i as u64);
+        m[i] = 1099511627776 + 1009 * i;
         i += 1;
     }
 }
 
-// Levels that ran off come back into the range that meets asks for.
-fn into_range(v: &mut [u64; PLACES], n: usize)
+// Takes the first n levels out; one that ran off comes back into the range that meets asks for.
+fn take(m: &[usize; MEMORY], v: &mut [u64; PLACES], n: usize)
     requires { ⌜ n ≤ places ⌝ }
     ensures range { λ _. ⌜ ((i : ℕ) → i < n → getD (now (v .exit)) i 0 < 2 ^ 44) ⌝ }
     ensures worked { λ _. ⌜ Worked (now (v .entry)) (now (v .exit)) ⌝ }
 {
     let mut i = 0;
     while i < n {
-        v[i] = v[i] % level::TOP;
+        v[i] = (m[i] % lowering::TOP) as u64;
         i += 1;
     }
 }

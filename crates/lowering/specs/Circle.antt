@@ -1,30 +1,33 @@
--- A circle of points, each lowered by the next, as `by` names the bounds: what its bounds come to.
+-- A circle of points, each lowered by the next, as the search's memory has it: whether it is a tie.
 -- Assumes nothing.
 use Prim.Native.Nat.{ℕ, zero, suc, _+_, _/_, _%_, _^_}
-use mathlib.Core.Path.{_≡_}
-use mathlib.Core.Logic.{_≢_}
+use mathlib.Core.Bool.{Bool, cond, false}
 use mathlib.Core.List.{List}
-use lib.ListN.{getD, take}
-use Rattle.notes.specs.Limits.{places, mostBounds}
+use lib.Dec.{eqb}
+use lib.ListN.{getD}
 
--- the bound that lowered point x last, and 0 where none did
-abbrev pub lastOf : (bounds by : List ℕ) → ℕ → ℕ
-lastOf bounds by x = getD (take mostBounds bounds) (getD by x 0) 0
+-- the bound that lowered point y last
+abbrev pub lastOf : (m : List ℕ) (y : ℕ) → ℕ
+lastOf m y = getD m (getD m (128 + y) 0 % 1024) 0
 
--- the point at the other end of a bound
-pub record Next (bound x y : ℕ) : Type 0 where
-  pub from-a : bound % places ≡ x → y ≡ bound / 256 % places
-  pub from-b : bound % places ≢ x → y ≡ bound % places
+-- the point that it goes on to
+abbrev pub nextOf : (m : List ℕ) (y : ℕ) → ℕ
+nextOf m y = lastOf m y / 256 % 128
 
--- what going along it from x comes to, modulo 2 ^ 64: its c in parts of D, one more where it is strict; from b, its c turned round
-pub record Step (bound x s : ℕ) : Type 0 where
-  pub from-a : bound % places ≡ x → (s + 2147450880) % 2 ^ 64 ≡ bound / 268435456 + bound / 65536 % 4 % 2
-  pub from-b : bound % places ≢ x → (s + bound / 268435456) % 2 ^ 64 ≡ 2147450880
+-- by how much it lets a point be over the next
+abbrev pub weightOf : (m : List ℕ) (y : ℕ) → ℕ
+weightOf m y = lastOf m y / 65536 % 2 ^ 44
 
--- from y on, with so many steps left, until x comes round: the sum of all steps, or 1 where it doesn't
-pub data Round (bounds by : List ℕ) (x : ℕ) : (left y sum answer : ℕ) → Type 0 where
-  back : {left y z s sum : ℕ} → Step (lastOf bounds by y) y s → Next (lastOf bounds by y) y z → z ≡ x →
-      Round bounds by x (suc left) y sum ((sum + s) % 2 ^ 64)
-  on : {left y z s sum answer : ℕ} → Step (lastOf bounds by y) y s → Next (lastOf bounds by y) y z → z ≢ x →
-      Round bounds by x left z ((sum + s) % 2 ^ 64) answer → Round bounds by x (suc left) y sum answer
-  out : {y sum : ℕ} → Round bounds by x zero y sum 1
+-- its c, biased, in 1,024ths of the weight, and one more where its slack is even, so that it isn't strict
+abbrev pub stepOf : (m : List ℕ) (y : ℕ) → ℕ
+stepOf m y = weightOf m y / 1024 + weightOf m y % 2
+
+-- what a step comes to whose c is 0 and that isn't strict
+abbrev pub evenStep : ℕ
+evenStep = 2064385
+
+-- from y on, with so many steps left, until x comes round: whether all steps together are as many even ones
+abbrev pub isTie : (m : List ℕ) (x left y sum due : ℕ) → Bool
+isTie m x zero y sum due = false
+isTie m x (suc left) y sum due =
+    cond (eqb (nextOf m y) x) (eqb (sum + stepOf m y) (due + evenStep)) (isTie m x left (nextOf m y) (sum + stepOf m y) (due + evenStep))

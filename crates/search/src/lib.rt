@@ -1,90 +1,145 @@
-// The search for levels: what the sheet asks is noted, and levels are lowered, bound by bound, until none has to fall.
-// It rests on notes, lowering, sorted and inputs.
+// The search for levels: what the sheet asks is noted, and levels are lowered, bound by bound, until none has to fall and applications of
+// one input are level.
+// It rests on notes and lowering.
 // It promises that it ends and stays within the memory lent to it; the levels that it leaves are free.
-ghost use Prim.Native.Nat.{_≤_};
+ghost use mathlib.Core.Path.{_≡_};
+ghost use Prim.Native.Nat.{_≤_, _<_, _^_};
 ghost use lib.ListN.{length};
 ghost use Rattle.sheet.specs.Decode.{Sized, sheetOf};
 ghost use Rattle.sheet.specs.Sheet.{WellFormed, countEntries};
-ghost use Rattle.notes.specs.Limits.{places, mostBounds, mostApplications};
+ghost use Rattle.notes.specs.Limits.{places, memory, mostApplications};
 ghost use Rattle.notes.specs.Search.{Worked};
-use lowering::circle;
-use lowering::level;
 use notes::APPLICATIONS;
-use notes::BOUNDS;
+use notes::INPUTS;
+use notes::MEMORY;
 use notes::PLACES;
+use notes::SHELVES;
+
+// An odd number of shelves to begin at: inputs differ by multiples of powers of two.
+const SPREAD: usize = PLACES - 1;
 
 // The search gives up after so many sweeps.
-const SWEEPS: usize = 400;
+const TURNS: usize = 400;
 
-// Most levels settle early. With so many sweeps left circles are looked for, and later the bounds are put in order.
-const EARLY: usize = 396;
-
-const LATE: usize = 388;
-
-// Notes the bounds, and lowers the levels by them.
-pub fn search(sheet: &[u8], set: &[bool], v: &mut [u64; PLACES], n: usize) -> bool
+// Notes what the sheet asks, and lowers the levels of its points, n in all, by it.
+pub fn search(m: &mut [usize; MEMORY], n: usize, sheet: &[u8], set: &[bool]) -> bool
     requires { ⌜ Sized (now sheet) × WellFormed (sheetOf (now sheet)) ⌝ }
     requires { ⌜ (countEntries (sheetOf (now sheet)) ≤ length (now set)) × (n ≤ places) ⌝ }
-    ensures { λ _. ⌜ Worked (now (v .entry)) (now (v .exit)) ⌝ }
+    ensures { λ _. ⌜ Worked (now (m .entry)) (now (m .exit)) ⌝ }
 {
-    let mut bounds = [0u64; BOUNDS];
-    let mut applications = [0u64; APPLICATIONS];
-    let terms = notes::note_terms(sheet, &mut bounds);
-    let count = notes::note_entries(sheet, set, &mut bounds, terms);
-    let applied = notes::note_applications(sheet, &mut applications);
-    settle(v, n, &mut bounds, count, &applications, applied)
+    let terms = notes::note_terms(m, sheet);
+    let end = notes::note_entries(m, sheet, set, terms);
+    settle(m, n, end)
 }
 
 // Lowers levels until no bound and no function asks for more. Where a circle of bounds leaves no room for their slacks, they lose them;
-// where it leaves none at all, or it takes too long, it gives up.
-fn settle(
-    v: &mut [u64; PLACES],
-    n: usize,
-    bounds: &mut [u64; BOUNDS],
-    before: usize,
-    applications: &[u64; APPLICATIONS],
-    applied: usize,
-) -> bool
-    requires { ⌜ (n ≤ places) × (before ≤ mostBounds) × (applied ≤ mostApplications) ⌝ }
-    ensures { λ _. ⌜ Worked (now (v .entry)) (now (v .exit)) × Worked (now (bounds .entry)) (now (bounds .exit)) ⌝ }
+// where it leaves none at all, or it takes too long, the search gives up.
+fn settle(m: &mut [usize; MEMORY], n: usize, before: usize) -> bool
+    requires { ⌜ (n ≤ places) × (before ≤ memory) ⌝ }
+    ensures { λ _. ⌜ Worked (now (m .entry)) (now (m .exit)) ⌝ }
 {
-    let mut by = [BOUNDS; PLACES];
-    let mut count = before;
-    let mut tied = false;
-    let mut left = SWEEPS;
-    while 0 < left {
-        left -= 1;
-        if !level::sweep(v, bounds, &mut by, count, left % 2 == 1) {
-            let more = inputs::pass(v, bounds, &mut by, count, applications, applied);
-            if more == count {
+    let mut end = before;
+    let mut turn = 0;
+    while turn < TURNS {
+        turn += 1;
+        // what is marked or put on a shelf in a turn is told from what was before by its base
+        let base = PLACES * turn;
+        if !lowering::sweep(m, end, turn) {
+            let more = pass(m, end, base);
+            if more == end {
                 return true;
             }
-            count = more;
-        } else if (left <= EARLY) & (left % 2 == 0) {
-            let found = untangle(bounds, &mut by, n, count, (left == LATE) & !tied);
-            if found == circle::NO_ROOM {
+            end = more;
+        } else if turn % 2 == 0 {
+            if !lowering::loosen(m, n, base) {
                 return false;
             }
-            tied = tied | (found == circle::TIES);
         }
     }
     false
 }
 
-// Looks for circles, and says which it found. Where there are none and it is late, the bounds are put in order.
-fn untangle(
-    bounds: &mut [u64; BOUNDS],
-    by: &mut [usize; PLACES],
-    n: usize,
-    count: usize,
-    late: bool,
-) -> u8
-    requires { ⌜ (n ≤ places) × (count ≤ mostBounds) ⌝ }
-    ensures { λ _. ⌜ Worked (now (bounds .entry)) (now (bounds .exit)) × Worked (now (by .entry)) (now (by .exit)) ⌝ }
+// Ties applications that have the same input now and aren't level, and answers the place behind the last bound.
+fn pass(m: &mut [usize; MEMORY], before: usize, base: usize) -> usize
+    requires { ⌜ (before ≤ memory) × (base ≤ 65536) ⌝ }
+    ensures answer { λ r. ⌜ r ≤ memory ⌝ }
+    ensures worked { λ _. ⌜ Worked (now (m .entry)) (now (m .exit)) ⌝ }
 {
-    let found = circle::loosen(bounds, by, n);
-    if late & (found == circle::NONE) {
-        sorted::arrange(bounds, by, n, count);
+    let mut end = before;
+    let mut k = 0;
+    while k < sheet::MAX_TERMS {
+        let application = m[APPLICATIONS + k];
+        if application == 0 {
+            return end;
+        }
+        end = place(m, end, base, k, application);
+        k += 1;
     }
-    found
+    end
+}
+
+// Puts the k-th application on the shelf of its input, or ties it to the one that stands there.
+fn place(m: &mut [usize; MEMORY], end: usize, base: usize, k: usize, application: usize) -> usize
+    requires { ⌜ (end ≤ memory) × (base ≤ 65536) × (k < mostApplications) ⌝ }
+    ensures answer { λ r. ⌜ r ≤ memory ⌝ }
+    ensures worked { λ _. ⌜ Worked (now (m .entry)) (now (m .exit)) ⌝ }
+{
+    let input = input_of(m, application);
+    m[INPUTS + k] = input;
+    let shelf = shelf_of(m, input, base);
+    let there = m[shelf];
+    if there < base {
+        m[shelf] = base + k;
+        return end;
+    }
+    let other = m[APPLICATIONS + there % sheet::MAX_TERMS];
+    level(m, end, application % PLACES, other % PLACES)
+}
+
+// Ties points i and j for good where they aren't level, and lowers the higher at once: other inputs may rest on it.
+fn level(m: &mut [usize; MEMORY], end: usize, i: usize, j: usize) -> usize
+    requires { ⌜ (end ≤ memory) × (i < places) × (j < places) ⌝ }
+    ensures answer { λ r. ⌜ r ≤ memory ⌝ }
+    ensures worked { λ _. ⌜ Worked (now (m .entry)) (now (m .exit)) ⌝ }
+{
+    if m[i] == m[j] {
+        return end;
+    }
+    if MEMORY < end + 2 {
+        return end;
+    }
+    let more = notes::tie(m, end, i, j, 32768);
+    lowering::lower(m, end);
+    lowering::lower(m, end + 1);
+    more
+}
+
+// The shelf with an application of this input, or the free one where it belongs.
+fn shelf_of(m: &[usize; MEMORY], input: usize, base: usize) -> usize
+    ensures { λ r. ⌜ r < memory ⌝ }
+{
+    let mut s = input % SPREAD;
+    let mut left = PLACES;
+    while 0 < left {
+        let there = m[SHELVES + s];
+        if (there < base) | (m[INPUTS + there % sheet::MAX_TERMS] == input) {
+            return SHELVES + s;
+        }
+        s = (s + 1) % PLACES;
+        left -= 1;
+    }
+    SHELVES + s
+}
+
+// Kind, symbol and the arguments' levels as one number. Two inputs may share it, which costs a guess and nothing else.
+fn input_of(m: &[usize; MEMORY], application: usize) -> usize
+    ensures { λ r. ⌜ r < 2 ^ 58 ⌝ }
+{
+    let a = m[application / notes::FIRST % PLACES] % lowering::TOP;
+    let b = m[application / notes::SECOND % PLACES] % lowering::TOP;
+    let key = application / notes::KEY % 512;
+    if key < 256 {
+        return key + 512 * a;
+    }
+    key + 512 * a + 7919 * b
 }

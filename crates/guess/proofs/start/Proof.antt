@@ -8,13 +8,12 @@ use Rattle.guess.proofs.start.Statement.{statement}
 use Rattle.guess.proofs.start.Tie as tie
 
 abbrev Inv-loop : tie.InvT-loop
-Inv-loop v₀ n i₀ v i = (length v ≡ length v₀) × (i ≤ n)
+Inv-loop m₀ n i₀ m i = (length m ≡ length m₀) × (i ≤ n)
 
 abbrev μ-loop : tie.MeasureT-loop
-μ-loop v₀ n i₀ v i = n - i
+μ-loop m₀ n i₀ m i = n - i
 
 pub start-spec : {M : Type 1} → statement M
 start-spec =
     tie.close
-    (tie.spec Inv-loop μ-loop (λ c. search needs) (λ c. search needs) (λ c. search needs) (λ c. search needs) (λ c. search needs)
-    (λ c. search needs) (λ c. search needs) (λ c. search needs) (λ c. search needs))
+    (tie.spec Inv-loop μ-loop (λ c. search needs) (λ c. search needs) (λ c. search needs) (λ c. search needs) (λ c. search needs) (λ c. search needs) (λ c. search needs) (λ c. search needs) (λ c. search needs))

@@ -1,0 +1,20 @@
+-- `search::pass` meets its contract.
+-- Assumes nothing.
+use Prim.Native.Nat.{_-_, _≤_}
+use mathlib.Core.Path.{_≡_}
+use lib.ListN.{length}
+use Rattle.notes.specs.Limits.{memory, mostApplications}
+use borrow.Author.Needs.{needs}
+use Rattle.search.proofs.pass.Statement.{statement}
+use Rattle.search.proofs.pass.Tie as tie
+
+abbrev Inv-loop : tie.InvT-loop
+Inv-loop m₀ before base end₀ k₀ m end k = (length m ≡ length m₀) × (end ≤ memory) × (k ≤ mostApplications)
+
+abbrev μ-loop : tie.MeasureT-loop
+μ-loop m₀ before base end₀ k₀ m end k = mostApplications - k
+
+pub pass-spec : {M : Type 1} → statement M
+pass-spec =
+    tie.close
+    (tie.spec Inv-loop μ-loop (λ c. search needs) (λ c. search needs) (λ c. search needs) (λ c. search needs) (λ c. search needs) (λ c κs. search needs) (λ c. search needs) (λ c. search needs) (λ c. search needs) (λ c. search needs))
