@@ -22,12 +22,6 @@ pub record Kept (n : ℕ) (old new : List ℕ) : Type 0 where
   pub right : (i j : ℕ) → n ≤ j → j < stride → cell new i j ≡ cell old i j
   pub below : (k : ℕ) → n * stride ≤ k → getD new k 0 ≡ getD old k 0
 
--- new is old with no gap in the n cells from `at` on
-pub record Filled (old new : List ℕ) (at n : ℕ) : Type 0 where
-  pub filled : (j : ℕ) → j < n → getD new (at + j) 0 ≡ none
-  pub before : (k : ℕ) → k < at → getD new k 0 ≡ getD old k 0
-  pub after : (k : ℕ) → at + n ≤ k → getD new k 0 ≡ getD old k 0
-
 -- new is old with a row i that says nothing of the other points
 pub record RowStarted (old new : List ℕ) (i n : ℕ) : Type 0 where
   pub same : cell new i i ≡ base

@@ -3,8 +3,8 @@
 ghost use mathlib.Core.Path.{_≡_};
 ghost use Prim.Native.Nat.{ℕ, _+_, _≤_, _<_};
 ghost use lib.ListN.{length, getD};
-ghost use Rattle.kind.specs.Code.{none, sumOf, tighterOf, Addable};
-ghost use Rattle.cells.specs.Cells.{stride, cells, cell, Filled, RowStarted, RowRelaxed};
+ghost use Rattle.kind.specs.Code.{none, sumOf, Addable};
+ghost use Rattle.cells.specs.Cells.{stride, cells, cell, RowStarted, RowRelaxed};
 use gap::Gap;
 
 // The most points: a sheet's terms and the zero level.
@@ -26,20 +26,12 @@ pub fn start_row(d: &mut [u32], i: usize, n: usize)
     ensures { λ _. ⌜ RowStarted (now (d .entry)) (now (d .exit)) i n ⌝ }
 {
     let at = i * STRIDE;
-    fill(d, at, n);
-    d[at + i] = Gap::ZERO.0;
-}
-
-// No gap in n cells from at on.
-fn fill(d: &mut [u32], at: usize, n: usize)
-    requires { ⌜ (at + n ≤ length (now d)) ⌝ }
-    ensures { λ _. ⌜ Filled (now (d .entry)) (now (d .exit)) at n ⌝ }
-{
     let mut j = 0;
     while j < n {
-        d[at + j] = Gap::NONE.0;
+        d[at + j] = gap::NONE;
         j += 1;
     }
+    d[at + i] = gap::ZERO;
 }
 
 // Row b, by value: the rows are relaxed by it while the table changes.
@@ -63,13 +55,10 @@ pub fn first_there(row: &[u32; STRIDE], n: usize) -> usize
     ensures { λ r. ⌜ (r ≤ n) × ((j : ℕ) → j < r → none ≤ getD (now (row .entry)) j 0) ⌝ }
 {
     let mut k = 0;
-    while k < n {
-        if row[k] < Gap::NONE.0 {
-            return k;
-        }
+    while k < n && gap::NONE <= row[k] {
         k += 1;
     }
-    n
+    k
 }
 
 // One past the last, or from where there is none from there on.
@@ -78,10 +67,7 @@ pub fn past_there(row: &[u32; STRIDE], from: usize, n: usize) -> usize
     ensures { λ r. ⌜ (from ≤ r) × (r ≤ n) × ((j : ℕ) → r ≤ j → j < n → none ≤ getD (now (row .entry)) j 0) ⌝ }
 {
     let mut k = n;
-    while from < k {
-        if row[k - 1] < Gap::NONE.0 {
-            return k;
-        }
+    while from < k && gap::NONE <= row[k - 1] {
         k -= 1;
     }
     k
@@ -103,31 +89,13 @@ pub fn relax_row(
     requires { ⌜ (cell (now d) i b ≤ via .0 → (j : ℕ) → from ≤ j → j < to → cell (now d) i j ≤ sumOf (via .0) (getD (now row) j 0)) ⌝ }
     ensures { λ _. ⌜ RowRelaxed (now (d .entry)) (now (d .exit)) (now (row .entry)) i (via .0) from to ⌝ }
 {
-    if gap_at(d, i, b).0 <= via.0 {
-        return;
-    }
-    relax_cells(d, i, via, row, from, to);
-}
-
-// The same, whatever the cell at b: one loop, and no test in it.
-fn relax_cells(d: &mut [u32], i: usize, via: Gap, row: &[u32; STRIDE], from: usize, to: usize)
-    requires { ⌜ (length (now d) ≡ cells) × (i < stride) × (from ≤ to) × (to ≤ stride) ⌝ }
-    requires { ⌜ ((j : ℕ) → from ≤ j → j < to → Addable (via .0) (getD (now row) j 0)) ⌝ }
-    ensures { λ _. ⌜ RowRelaxed (now (d .entry)) (now (d .exit)) (now (row .entry)) i (via .0) from to ⌝ }
-{
     let at = i * STRIDE;
-    let mut j = from;
-    while j < to {
-        let k = at + j;
-        d[k] = relaxed(d[k], via, row[j]);
-        j += 1;
+    if via.0 < d[at + b] {
+        let mut j = from;
+        while j < to {
+            let k = at + j;
+            d[k] = Gap(d[k]).tighter(via.sum(Gap(row[j]))).0;
+            j += 1;
+        }
     }
-}
-
-// The tighter of a gap and the way through another point.
-fn relaxed(was: u32, via: Gap, on: u32) -> u32
-    requires { ⌜ Addable (via .0) on ⌝ }
-    ensures { λ r. ⌜ r ≡ tighterOf was (sumOf (via .0) on) ⌝ }
-{
-    Gap(was).tighter(via.sum(Gap(on))).0
 }

@@ -1,64 +1,162 @@
--- When two terms have the same input, as the code's terms say it.
+-- When two terms have the same input, as their records say it.
 -- Assumes nothing.
-use Prim.Native.Nat.{ℕ}
-use mathlib.Core.Path.{_≡_, refl}
-use mathlib.Core.Bool.{Bool, false, true≢false}
-use mathlib.Core.List.{[], _∷_}
+use Prim.Native.Nat.{ℕ, zero, suc, _≤_, _<_}
+use mathlib.Core.Path.{_≡_, refl, sym, _∙_}
+use mathlib.Core.Bool.{Bool, true, false, not, _||_, _&&_, true≢false}
+use mathlib.Core.Logic.{⊎-elim}
+use lib.Dec.{ltb, leb, eqb}
 use lib.IntN.{pos}
-use denote.Enum.Declared.{tagOf}
-use types.Run.{OneOf, miss}
+use lib.ListN.{getD}
+use native.Mathlib.Nat.{eq-or-lt-of-le}
+use native.Mathlib.Omega.{arith}
+use borrow.Author.Tests.{ltb-false, eqb-true, eqb-false, le-ltb, le-leb, lt-leb, eq-eqb, not-false}
 use Rattle.closure.specs.Closed.{TiedAt}
-use Rattle.sheet.specs.declared.Term.{Term as Code-Term}
-use Rattle.sheet.specs.declared.Term.the-variants.{Unknown, Number, Shift, Apply, Apply2}
-use Rattle.sheet.specs.Sheet.{Term, apply, apply2}
-use Rattle.sheet.specs.Says.{termSays}
-use Rattle.sheet.proofs.Term.{the-type}
+use Rattle.sheet.specs.declared.Fields.{Fields}
+use Rattle.sheet.specs.Decode.{termKinds, decodeTerm}
+use Rattle.sheet.specs.Sheet.{Term, unknown, apply, apply2, ArgumentsBelow}
+use Rattle.sheet.proofs.Below.{argument, arguments}
 use Rattle.meaning.specs.Meaning.{one, two}
 use Rattle.meaning.specs.Decides.{Decides}
-use Rattle.meaning.proofs.Decides.{refuted, told}
+use Rattle.meaning.proofs.Decides.{told}
 use Rattle.joined.specs.Joined.{isApplication, Joined}
 
-module _ {d : ℕ → ℕ → ℕ} where
-  -- applications to one term
-  one-says : {f g a b : ℕ} → Joined d (apply f a) (apply g b) → (f ≡ g) × TiedAt d a b (pos 0)
-  one-says (one t) = (refl, t)
+-- the terms that a record of kind 3 or 4 makes, and no other does
+is-one : (f : Fields) → f .kind ≡ 3 → decodeTerm f ≡ apply (f .symbol) (f .a)
+unfolding decodeTerm
+is-one f e = rw e
 
-  pub one-told : {f g a b : ℕ} {r : Bool} → Decides ((f ≡ g) × TiedAt d a b (pos 0)) r → Decides (Joined d (apply f a) (apply g b)) r
-  one-told = told (λ p. rw (p .0) (one (p .1))) one-says
+is-two : (f : Fields) → f .kind ≡ 4 → decodeTerm f ≡ apply2 (f .symbol) (f .a) (f .b)
+unfolding decodeTerm
+is-two f e = rw e
 
-  -- applications to two: the symbols and the first arguments, and then the second
-  two-says : {f g a b a' b' : ℕ} → Joined d (apply2 f a b) (apply2 g a' b') → ((f ≡ g) × TiedAt d a a' (pos 0)) × TiedAt d b b' (pos 0)
-  two-says (two t u) = ((refl, t), u)
+of-one : (f : Fields) {g a : ℕ} → decodeTerm f ≡ apply g a → (f .kind ≡ 3) × (f .symbol ≡ g) × (f .a ≡ a)
+unfolding decodeTerm
+of-one f {g} {a} = go (f .kind) refl
+  where
+    go : (k : ℕ) → f .kind ≡ k → getD (termKinds f) k unknown ≡ apply g a → (f .kind ≡ 3) × (f .symbol ≡ g) × (f .a ≡ a)
+    go zero e h = let z : _≡_ {A = ℕ} 0 1 = cc in absurd (omega arith)
+    go (suc zero) e h = let z : _≡_ {A = ℕ} 0 1 = cc in absurd (omega arith)
+    go (suc (suc zero)) e h = let z : _≡_ {A = ℕ} 0 1 = cc in absurd (omega arith)
+    go (suc (suc (suc zero))) e h = (e, cc, cc)
+    go (suc (suc (suc (suc zero)))) e h = let z : _≡_ {A = ℕ} 0 1 = cc in absurd (omega arith)
+    go (suc (suc (suc (suc (suc k))))) e h = let z : _≡_ {A = ℕ} 0 1 = cc in absurd (omega arith)
 
-  pub two-refuted : {f g a b a' b' : ℕ} → ((f ≡ g) × TiedAt d a a' (pos 0) → ⊥) → Decides (Joined d (apply2 f a b) (apply2 g a' b')) false
-  two-refuted n = refuted (λ s. n (two-says s .0))
+of-two : (f : Fields) {g a b : ℕ} → decodeTerm f ≡ apply2 g a b → (f .kind ≡ 4) × (f .symbol ≡ g) × (f .a ≡ a) × (f .b ≡ b)
+unfolding decodeTerm
+of-two f {g} {a} {b} = go (f .kind) refl
+  where
+    go : (k : ℕ) → f .kind ≡ k → getD (termKinds f) k unknown ≡ apply2 g a b → (f .kind ≡ 4) × (f .symbol ≡ g) × (f .a ≡ a) × (f .b ≡ b)
+    go zero e h = let z : _≡_ {A = ℕ} 0 1 = cc in absurd (omega arith)
+    go (suc zero) e h = let z : _≡_ {A = ℕ} 0 1 = cc in absurd (omega arith)
+    go (suc (suc zero)) e h = let z : _≡_ {A = ℕ} 0 1 = cc in absurd (omega arith)
+    go (suc (suc (suc zero))) e h = let z : _≡_ {A = ℕ} 0 1 = cc in absurd (omega arith)
+    go (suc (suc (suc (suc zero)))) e h = (e, cc, cc, cc)
+    go (suc (suc (suc (suc (suc k))))) e h = let z : _≡_ {A = ℕ} 0 1 = cc in absurd (omega arith)
 
-  pub two-told : {f g a b a' b' : ℕ} {r : Bool} → (f ≡ g) × TiedAt d a a' (pos 0) → Decides (TiedAt d b b' (pos 0)) r
-      → Decides (Joined d (apply2 f a b) (apply2 g a' b')) r
-  two-told p = told (λ t. rw (p .0) (two (p .1) t)) (λ s. two-says s .1)
+pub application : (f : Fields) → leb 3 (f .kind) && leb (f .kind) 4 ≡ isApplication (decodeTerm f)
+unfolding decodeTerm
+application f = go (f .kind)
+  where
+    go : (k : ℕ) → leb 3 k && leb k 4 ≡ isApplication (getD (termKinds f) k unknown)
+    go zero = refl
+    go (suc zero) = refl
+    go (suc (suc zero)) = refl
+    go (suc (suc (suc zero))) = refl
+    go (suc (suc (suc (suc zero)))) = refl
+    go (suc (suc (suc (suc (suc k))))) = rw (le-leb 3 (suc (suc (suc (suc (suc k))))) (omega arith), lt-leb (suc (suc (suc (suc (suc k))))) 4 (omega arith))
 
-  -- terms of two kinds
-  pub other-one : {f a : ℕ} (u : Code-Term) → OneOf (0 ∷ 1 ∷ 2 ∷ 4 ∷ []) (tagOf the-type u) → Decides (Joined d (apply f a) (termSays u)) false
-  other-one Unknown h = refuted (λ s. elim s [ ])
-  other-one (Number c) h = refuted (λ s. elim s [ ])
-  other-one (Shift a c) h = refuted (λ s. elim s [ ])
-  other-one (Apply g a) h = absurd (miss (0 ∷ 1 ∷ 2 ∷ 4 ∷ []) 3 tt h)
-  other-one (Apply2 g a b) h = refuted (λ s. elim s [ ])
+-- two records of one kind and symbol, the kind 3 or 4
+pub record OneSymbol (t u : Fields) : Type 0 where
+  pub kind : t .kind ≡ u .kind
+  pub symbol : t .symbol ≡ u .symbol
+  pub low : 3 ≤ t .kind
+  pub high : t .kind ≤ 4
 
-  pub other-two : {f a b : ℕ} (u : Code-Term) → OneOf (0 ∷ 1 ∷ 2 ∷ 3 ∷ []) (tagOf the-type u) → Decides (Joined d (apply2 f a b) (termSays u)) false
-  other-two Unknown h = refuted (λ s. elim s [ ])
-  other-two (Number c) h = refuted (λ s. elim s [ ])
-  other-two (Shift a c) h = refuted (λ s. elim s [ ])
-  other-two (Apply g a) h = refuted (λ s. elim s [ ])
-  other-two (Apply2 g a b) h = absurd (miss (0 ∷ 1 ∷ 2 ∷ 3 ∷ []) 4 tt h)
+-- the test of it
+abbrev other : Fields → Fields → Bool
+other t u = ((ltb (t .kind) 3 || ltb 4 (t .kind)) || not (eqb (t .kind) (u .kind))) || not (eqb (t .symbol) (u .symbol))
 
-  pub no-input : {t u : Term} → isApplication t ≡ false → Joined d t u → ⊥
-  no-input e (one p) = true≢false e
-  no-input e (two p q) = true≢false e
+or-false : (a b : Bool) → a || b ≡ false → (a ≡ false) × (b ≡ false)
+or-false true b e = absurd (true≢false e)
+or-false false b e = (refl, e)
 
-  pub no-application : {u : Term} (t : Code-Term) → OneOf (0 ∷ 1 ∷ 2 ∷ []) (tagOf the-type t) → Decides (Joined d (termSays t) u) false
-  no-application Unknown h = refuted (no-input refl)
-  no-application (Number c) h = refuted (no-input refl)
-  no-application (Shift a c) h = refuted (no-input refl)
-  no-application (Apply g a) h = absurd (miss (0 ∷ 1 ∷ 2 ∷ []) 3 tt h)
-  no-application (Apply2 g a b) h = absurd (miss (0 ∷ 1 ∷ 2 ∷ []) 4 tt h)
+pub one-symbol : (t u : Fields) → other t u ≡ false → OneSymbol t u
+one-symbol t u e =
+    let symbols = or-false _ _ e in
+    let kinds = or-false _ _ (symbols .0) in
+    let range = or-false _ _ (kinds .0) in
+    record {
+      kind = eqb-true _ _ (not-false _ (kinds .1));
+      symbol = eqb-true _ _ (not-false _ (symbols .1));
+      low = ltb-false _ _ (range .0);
+      high = ltb-false _ _ (range .1);
+    }
+
+pub not-other : (t u : Fields) → OneSymbol t u → other t u ≡ false
+not-other t u O = rw (le-ltb (t .kind) 3 (O .low), le-ltb 4 (t .kind) (O .high), eq-eqb _ _ (O .kind), eq-eqb _ _ (O .symbol))
+
+-- what the same input comes to
+pub record Input (d : ℕ → ℕ → ℕ) (t u : Fields) : Type 0 where
+  pub alike : OneSymbol t u
+  pub first : TiedAt d (t .a) (u .a) (pos 0)
+  pub second : t .kind ≡ 4 → TiedAt d (t .b) (u .b) (pos 0)
+
+-- the arguments of such records
+first-below : {n : ℕ} (f : Fields) → 3 ≤ f .kind → f .kind ≤ 4 → ArgumentsBelow n (decodeTerm f) → f .a < n
+first-below f l h A =
+    ⊎-elim (λ e. argument (rw (is-one f (sym e)) at A)) (λ l. arguments (rw (is-two f (omega arith)) at A) .0)
+    (eq-or-lt-of-le {n = 3} {m = f .kind} l)
+
+pub firsts : {n : ℕ} {t u : Fields} → OneSymbol t u → ArgumentsBelow n (decodeTerm t) × ArgumentsBelow n (decodeTerm u) → (t .a < n) × (u .a < n)
+firsts {n} {t} {u} O A = (first-below t (O .low) (O .high) (A .0), first-below u (omega arith) (omega arith) (A .1))
+
+-- not of kind 3, so of kind 4
+four : {t u : Fields} → OneSymbol t u → (t .kind ≡ 3 → ⊥) → (t .kind ≡ 4) × (u .kind ≡ 4)
+four {t} {u} O n = ⊎-elim (λ e. absurd (n (sym e))) (λ l. (omega arith, omega arith)) (eq-or-lt-of-le {n = 3} {m = t .kind} (O .low))
+
+pub seconds : {n : ℕ} {t u : Fields} → OneSymbol t u → (t .kind ≡ 3 → ⊥) → ArgumentsBelow n (decodeTerm t) × ArgumentsBelow n (decodeTerm u)
+    → (t .b < n) × (u .b < n)
+seconds {t = t} {u} O n A =
+    let e = four O n in
+    (arguments (rw (is-two t (e .0)) at (A .0)) .1, arguments (rw (is-two u (e .1)) at (A .1)) .1)
+
+module _ {d : ℕ → ℕ → ℕ} {t u : Fields} where
+  pub says : Joined d (decodeTerm t) (decodeTerm u) → Input d t u
+  says = go refl refl
+    where
+      go : {x y : Term} → decodeTerm t ≡ x → decodeTerm u ≡ y → Joined d x y → Input d t u
+      go e f (one p) =
+          let l = of-one t e in
+          let r = of-one u f in
+          record {
+            alike = record { kind = omega arith; symbol = l .1 ∙ sym (r .1); low = omega arith; high = omega arith };
+            first = rw (l .2, r .2) p;
+            second = λ h. absurd (omega arith);
+          }
+      go e f (two p q) =
+          let l = of-two t e in
+          let r = of-two u f in
+          record {
+            alike = record { kind = omega arith; symbol = l .1 ∙ sym (r .1); low = omega arith; high = omega arith };
+            first = rw (l .2, r .2) p;
+            second = λ h. rw (l .3, r .3) q;
+          }
+
+  -- of one symbol, and the first arguments tied
+  module _ (O : OneSymbol t u) (first : TiedAt d (t .a) (u .a) (pos 0)) where
+    pub one-told : t .kind ≡ 3 → Decides (Joined d (decodeTerm t) (decodeTerm u)) (eqb (t .kind) 3)
+    one-told e =
+        record {
+          yes = λ f. rw (is-one t e, is-one u (sym (O .kind) ∙ e), O .symbol) (one first);
+          no = λ f. absurd (eqb-false _ _ f e);
+        }
+
+    pub two-told : {r : Bool} → (t .kind ≡ 3 → ⊥) → Decides (TiedAt d (t .b) (u .b) (pos 0)) r
+        → Decides (Joined d (decodeTerm t) (decodeTerm u)) r
+    two-told n =
+        let e = four O n in
+        told (λ s. rw (is-two t (e .0), is-two u (e .1), O .symbol) (two first s)) (λ J. says J .second (e .0))
+
+pub no-input : {d : ℕ → ℕ → ℕ} {t u : Term} → isApplication t ≡ false → Joined d t u → ⊥
+no-input e (one p) = true≢false e
+no-input e (two p q) = true≢false e

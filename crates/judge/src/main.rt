@@ -4,7 +4,6 @@ use libc::STDIN_FILENO;
 use libc::STDOUT_FILENO;
 use promise::Answer;
 use refusal::Refusal;
-use sheet::EntryNumber;
 
 fn main() {
     let mut bytes = [0u8; sheet::LONGEST + 1];
@@ -24,12 +23,6 @@ fn main() {
     }
 }
 
-fn print_clash(list: &[u8]) {
-    io::write_all(STDOUT_FILENO, b"clashes");
-    print_list(list);
-    io::write_all(STDOUT_FILENO, b"\n");
-}
-
 fn print_refused(why: Refusal) {
     io::write_all(STDOUT_FILENO, b"refused ");
     io::print_decimal(STDOUT_FILENO, why.number() as u64);
@@ -38,16 +31,14 @@ fn print_refused(why: Refusal) {
     io::write_all(STDOUT_FILENO, b"\n");
 }
 
-fn print_list(list: &[u8]) {
+// Each entry's number after a space.
+fn print_clash(list: &[u8]) {
+    io::write_all(STDOUT_FILENO, b"clashes");
     let mut i = 0;
     while i < list.len() {
-        print_entry(EntryNumber(list[i]));
+        io::write_all(STDOUT_FILENO, b" ");
+        io::print_decimal(STDOUT_FILENO, list[i] as u64);
         i += 1;
     }
-}
-
-// The entry's number after a space.
-fn print_entry(entry: EntryNumber) {
-    io::write_all(STDOUT_FILENO, b" ");
-    io::print_decimal(STDOUT_FILENO, entry.0 as u64);
+    io::write_all(STDOUT_FILENO, b"\n");
 }

@@ -1,4 +1,4 @@
--- The last arms of the matches on a term: the kinds that have no input, and no second argument.
+-- The last arm of the match on a term: the kinds that have no input.
 -- Assumes nothing.
 use Prim.Native.Nat.{ℕ}
 use mathlib.Core.Path.{_≡_, refl}
@@ -12,16 +12,9 @@ use Rattle.sheet.proofs.Term.{the-type}
 use Rattle.keys.specs.Keys.{firstKey, secondKey, SymbolFits}
 
 pub no-input : (v : List ℕ) (t : ℕ) (x : Code-Term) → OneOf (0 ∷ 1 ∷ 2 ∷ []) (tagOf the-type x)
-    → (0 ≡ firstKey v t (termSays x)) × SymbolFits (termSays x)
-no-input v t Unknown h = (refl, tt)
-no-input v t (Number c) h = (refl, tt)
-no-input v t (Shift a c) h = (refl, tt)
+    → (0 ≡ firstKey v t (termSays x)) × (0 ≡ secondKey v t (termSays x)) × SymbolFits (termSays x)
+no-input v t Unknown h = (refl, refl, tt)
+no-input v t (Number c) h = (refl, refl, tt)
+no-input v t (Shift a c) h = (refl, refl, tt)
 no-input v t (Apply f a) h = absurd (miss (0 ∷ 1 ∷ 2 ∷ []) 3 tt h)
 no-input v t (Apply2 f a b) h = absurd (miss (0 ∷ 1 ∷ 2 ∷ []) 4 tt h)
-
-pub no-second : (v : List ℕ) (t : ℕ) (x : Code-Term) → OneOf (0 ∷ 1 ∷ 2 ∷ 3 ∷ []) (tagOf the-type x) → 0 ≡ secondKey v t (termSays x)
-no-second v t Unknown h = refl
-no-second v t (Number c) h = refl
-no-second v t (Shift a c) h = refl
-no-second v t (Apply f a) h = refl
-no-second v t (Apply2 f a b) h = absurd (miss (0 ∷ 1 ∷ 2 ∷ 3 ∷ []) 4 tt h)

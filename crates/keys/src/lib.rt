@@ -15,14 +15,28 @@ use sheet::TermNumber;
 pub const LIMIT: u64 = 1099511627776;
 
 // The keys of a term's input: a pair of terms is two comparisons.
-pub fn first_key(v: &[u64], t: usize, x: Term) -> u64
+pub struct Input {
+    pub first: u64,
+    pub second: u64,
+}
+
+pub fn input_of(v: &[u64], t: usize, x: Term) -> Input
     requires { ⌜ Ready (now v) t × ArgumentsBelow t (termSays x) ⌝ }
-    ensures { λ r. ⌜ (r ≡ firstKey (now (v .entry)) t (termSays x)) × SymbolFits (termSays x) ⌝ }
+    ensures { λ r. ⌜ (r .first ≡ firstKey (now (v .entry)) t (termSays x)) × (r .second ≡ secondKey (now (v .entry)) t (termSays x)) × SymbolFits (termSays x) ⌝ }
 {
     match x {
-        Term::Apply(f, a) => applied(v, t, 1, f, a),
-        Term::Apply2(f, a, _) => applied(v, t, 257, f, a),
-        _ => 0,
+        Term::Apply(f, a) => Input {
+            first: applied(v, t, 1, f, a),
+            second: 0,
+        },
+        Term::Apply2(f, a, b) => Input {
+            first: applied(v, t, 257, f, a),
+            second: height_of(v, t, b),
+        },
+        _ => Input {
+            first: 0,
+            second: 0,
+        },
     }
 }
 
@@ -32,16 +46,6 @@ fn applied(v: &[u64], t: usize, kind: u64, f: Symbol, a: TermNumber) -> u64
     ensures { λ r. ⌜ (r ≡ kind + f .0 + 512 * height (now (v .entry)) t (a .0)) × (f .0 < 256) ⌝ }
 {
     kind + f.0 as u64 + 512 * height_of(v, t, a)
-}
-
-pub fn second_key(v: &[u64], t: usize, x: Term) -> u64
-    requires { ⌜ Ready (now v) t × ArgumentsBelow t (termSays x) ⌝ }
-    ensures { λ r. ⌜ r ≡ secondKey (now (v .entry)) t (termSays x) ⌝ }
-{
-    match x {
-        Term::Apply2(_, _, b) => height_of(v, t, b),
-        _ => 0,
-    }
 }
 
 // Over the lowest level that the limits allow, so that no height is below 0.

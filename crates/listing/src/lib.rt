@@ -1,9 +1,8 @@
 // The record of a clash as code writes it: the numbers of a set's entries, rising, behind a head.
 // It rests on writing's head, and promises the record's bytes (answer) and that the rest of the room is as it was.
 ghost use Prim.Native.Nat.{_+_, _≤_};
-ghost use lib.ListN.{length, drop};
-ghost use Rattle.big.specs.Big.{Kept};
-ghost use Rattle.order.specs.First.{marked, Listed};
+ghost use lib.ListN.{length};
+ghost use Rattle.order.specs.First.{marked};
 ghost use Rattle.answer.specs.Record.{headLength};
 ghost use Rattle.listing.specs.Named.{Named};
 use writing::HEAD;
@@ -12,18 +11,6 @@ use writing::HEAD;
 pub fn clashes(room: &mut [u8], marks: &[bool], n: usize) -> usize
     requires { ⌜ (n ≤ length (now marks)) × (headLength + n ≤ length (now room)) × (n ≤ 256) ⌝ }
     ensures { λ r. ⌜ Named n (marked (now (marks .entry))) (now (room .entry)) (now (room .exit)) r ⌝ }
-{
-    let k = list(marks, n, room);
-    writing::head(room, HEAD + k, 1, k as u64);
-    HEAD + k
-}
-
-// Writes the numbers of the marked entries below n behind the head's place, rising, and answers how many there are.
-fn list(marks: &[bool], n: usize, room: &mut [u8]) -> usize
-    requires { ⌜ (n ≤ length (now marks)) × (headLength + n ≤ length (now room)) × (n ≤ 256) ⌝ }
-    ensures few { λ r. ⌜ r ≤ n ⌝ }
-    ensures listed { λ r. ⌜ Listed n (marked (now (marks .entry))) (drop headLength (now (room .exit))) r ⌝ }
-    ensures kept { λ r. ⌜ Kept (now (room .entry)) (now (room .exit)) headLength r ⌝ }
 {
     let mut k = 0;
     let mut x = 0;
@@ -34,5 +21,6 @@ fn list(marks: &[bool], n: usize, room: &mut [u8]) -> usize
         }
         x += 1;
     }
-    k
+    writing::head(room, HEAD + k, 1, k as u64);
+    HEAD + k
 }

@@ -44,28 +44,32 @@ functional {s} {D} {v} T i j i< j< h =
     (λ i≤. ⊎-elim (λ j≤. let e : i ≡ j = omega arith in ap (value s v) e) (λ k. T .functions j j< .function i k h) (order j i))
     (λ k. sym (T .functions i i< .function j k (other-way h))) (order i j)
 
-module _ {s : Sheet} {S : Set} {D : ℕ} {v : List ℕ} where
-  pub near-of : Met s S D v → Near v (countTerms s)
+-- t is the number of terms, as the code has it
+module _ {s : Sheet} {S : Set} {D : ℕ} {v : List ℕ} {t : ℕ} (e : t ≡ countTerms s) where
+  pub near-of : Met s S D v → Near v t
   near-of m =
-      record {
+      rw e
+      (record {
         above = λ i l. omega (arith, sub-parts (getD v i 0) (getD v (countTerms s) 0), m .above i l);
         below = λ i l. omega (arith, sub-parts (getD v i 0) (getD v (countTerms s) 0), m .below i l);
-      }
+      })
 
-  pub terms-of : Met s S D v → TermsMet s D v (countTerms s)
+  pub terms-of : Met s S D v → TermsMet s D v t
   terms-of m =
       record {
-        defined = m .meet .defined;
-        functions = λ i l. record { function = λ j k. m .meet .functions j i (omega arith) l };
+        defined = λ i l. m .meet .defined i (omega arith);
+        functions = λ i l. record { function = λ j k. m .meet .functions j i (omega arith) (omega arith) };
       }
 
-  pub entries-of : Met s S D v → EntriesMet s S D v (countEntries s)
-  entries-of m = record { entries = m .meet .entries }
-
-  pub met : 1 ≤ D → Near v (countTerms s) → TermsMet s D v (countTerms s) → EntriesMet s S D v (countEntries s) → Met s S D v
-  met D≥ N T E =
+  pub met : 1 ≤ D → Near v t → TermsMet s D v t → EntriesMet s S D v (countEntries s) → Met s S D v
+  met D≥ near terms E =
+      let N = rw e at near in
+      let T = rw e at terms in
       record {
         meet = record { positive = D≥; defined = T .defined; functions = functional T; entries = E .entries };
         above = λ i l. above-limit (getD v i 0) (getD v (countTerms s) 0) (2 ^ 40) (N .above i l);
         below = λ i l. below-limit (getD v i 0) (getD v (countTerms s) 0) (2 ^ 40) (N .below i l);
       }
+
+pub entries-of : {s : Sheet} {S : Set} {D : ℕ} {v : List ℕ} → Met s S D v → EntriesMet s S D v (countEntries s)
+entries-of m = record { entries = m .meet .entries }

@@ -1,6 +1,7 @@
 // Whether D and values, given as levels, meet a sheet on a set of its entries: document 01's rules, tested one by one.
 // It rests on keys, for terms that have one input, and on rules, for a term and an entry by itself.
 // It promises yes exactly where they meet it within the answer's limits, and reads each term and each entry once.
+ghost use mathlib.Core.Path.{_≡_};
 ghost use Prim.Native.Nat.{ℕ, _+_, _^_, _≤_, _<_};
 ghost use lib.ListN.{length, getD};
 ghost use Rattle.order.specs.First.{marked};
@@ -23,69 +24,71 @@ pub fn check(sheet: &[u8], set: &[bool], d: u64, v: &[u64]) -> bool
     requires { ⌜ (1 ≤ d) × (d ≤ 65535) × ((i : ℕ) → i ≤ countTerms (sheetOf (now sheet)) → getD (now v) i 0 < 2 ^ 62) ⌝ }
     ensures { λ r. ⌜ Decides (Met (sheetOf (now (sheet .entry))) (marked (now (set .entry))) d (now (v .entry))) r ⌝ }
 {
-    if !limits(v, reading::count_terms(sheet)) {
-        return false;
+    let t = reading::count_terms(sheet);
+    if limits(v, t) {
+        if terms(sheet, d, v, t) {
+            entries(sheet, set, d, v, t)
+        } else {
+            false
+        }
+    } else {
+        false
     }
-    if !terms(sheet, d, v) {
-        return false;
-    }
-    entries(sheet, set, d, v)
 }
 
-// First of all, so that no key overflows.
+// First of all, so that no key overflows. No test jumps, so that several levels can be tested at once.
 fn limits(v: &[u64], t: usize) -> bool
     requires { ⌜ (t < length (now v)) × ((i : ℕ) → i ≤ t → getD (now v) i 0 < 2 ^ 62) ⌝ }
     ensures { λ r. ⌜ Decides (Near (now (v .entry)) t) r ⌝ }
 {
     let zero = v[t];
+    let mut near = true;
     let mut i = 0;
     while i < t {
         let x = v[i];
-        if zero + LIMIT < x {
-            return false;
-        }
-        if x + LIMIT < zero {
-            return false;
-        }
+        near = near & (x <= zero + LIMIT) & (zero <= x + LIMIT);
         i += 1;
     }
-    true
+    near
 }
 
-// Each term is read once: its own rule, its keys, and those before it that have the same.
-fn terms(sheet: &[u8], d: u64, v: &[u64]) -> bool
+// Each term is read once: its keys, those before it that have the same, and its own rule.
+fn terms(sheet: &[u8], d: u64, v: &[u64], t: usize) -> bool
     requires { ⌜ Sized (now sheet) × WellFormed (sheetOf (now sheet)) ⌝ }
-    requires { ⌜ (d ≤ 65535) × Ready (now v) (countTerms (sheetOf (now sheet))) ⌝ }
-    ensures { λ r. ⌜ Decides (TermsMet (sheetOf (now (sheet .entry))) d (now (v .entry)) (countTerms (sheetOf (now (sheet .entry))))) r ⌝ }
+    requires { ⌜ (t ≡ countTerms (sheetOf (now sheet))) × (d ≤ 65535) × Ready (now v) t ⌝ }
+    ensures { λ r. ⌜ Decides (TermsMet (sheetOf (now (sheet .entry))) d (now (v .entry)) t) r ⌝ }
 {
-    let t = reading::count_terms(sheet);
-    let mut one = [0u64; sheet::MAX_TERMS];
-    let mut two = [0u64; sheet::MAX_TERMS];
+    let mut keys = [0u64; shelves::KEYS];
     let mut shelves = [false; shelves::SHELVES];
     let mut i = 0;
     while i < t {
-        let n = TermNumber(i as u8);
-        let x = reading::term_at(sheet, n);
-        if !rules::defined(v, t, d, n, x) {
+        let x = reading::term_at(sheet, TermNumber(i as u8));
+        let level = v[i];
+        let input = keys::input_of(v, t, x);
+        let agrees = shelves::row(
+            &mut keys,
+            &mut shelves,
+            v,
+            input.first,
+            input.second,
+            level,
+            i,
+        );
+        if agrees & rules::defined(v, t, d, level, x) {
+            i += 1;
+        } else {
             return false;
         }
-        one[i] = keys::first_key(v, t, x);
-        two[i] = keys::second_key(v, t, x);
-        if !shelves::row(&one, &two, v, &mut shelves, n) {
-            return false;
-        }
-        i += 1;
     }
     true
 }
 
 // Every entry of the set is true.
-fn entries(sheet: &[u8], set: &[bool], d: u64, v: &[u64]) -> bool
-    requires { ⌜ Sized (now sheet) × WellFormed (sheetOf (now sheet)) ⌝ }
-    requires { ⌜ (countEntries (sheetOf (now sheet)) ≤ length (now set)) × (d ≤ 65535) × Ready (now v) (countTerms (sheetOf (now sheet))) ⌝ }
+fn entries(sheet: &[u8], set: &[bool], d: u64, v: &[u64], t: usize) -> bool
+    requires { ⌜ Sized (now sheet) × WellFormed (sheetOf (now sheet)) × (countEntries (sheetOf (now sheet)) ≤ length (now set)) ⌝ }
+    requires { ⌜ (t ≡ countTerms (sheetOf (now sheet))) × (d ≤ 65535) × Ready (now v) t ⌝ }
     ensures { λ r. ⌜ Decides (EntriesMet (sheetOf (now (sheet .entry))) (marked (now (set .entry))) d (now (v .entry)) (countEntries (sheetOf (now (sheet .entry))))) r ⌝ }
 {
-    let t = reading::count_terms(sheet);
     let l = reading::count_entries(sheet);
     let mut e = 0;
     while e < l {

@@ -58,17 +58,7 @@ pub data Tying (n a b : ℕ) (old : List ℕ) : List ℕ → Passed → Type 0 w
       → total n (cell new) < total n (cell old) → Tying n a b old new New
   already : TiedAt (cell old) a b (pos 0) → Tying n a b old old Still
 
--- what a loop keeps of its passes, and what it answers in the end
-abbrev pub isClash : Passed → Bool
-isClash Clash = true
-isClash New = false
-isClash Still = false
-
-abbrev pub isNew : Passed → Bool
-isNew Clash = false
-isNew New = true
-isNew Still = false
-
+-- what a loop over passes answers in the end: one of them tied something, or none did
 abbrev pub passedOf : Bool → Passed
 passedOf true = New
 passedOf false = Still

@@ -1,8 +1,8 @@
 -- Passes one after the other: what a loop over pairs keeps, and what it answers.
 -- Assumes nothing.
 use Prim.Native.Nat.{ℕ, _+_, _<_}
-use mathlib.Core.Path.{_≡_, refl, sym}
-use mathlib.Core.Bool.{Bool, true, false, _||_, true≢false}
+use mathlib.Core.Path.{refl}
+use mathlib.Core.Bool.{Bool, true, false}
 use mathlib.Core.List.{List}
 use native.Mathlib.Omega.{arith}
 use borrow.Author.Count.{below-more}
@@ -13,9 +13,8 @@ use Rattle.sheet.specs.Sheet.{Sheet}
 use Rattle.settled.specs.Settled.{points}
 use Rattle.steps.specs.Step.{Stepped}
 use Rattle.steps.proofs.Steps.{Leaves, arrived, followed}
-use Rattle.pairs.specs.declared.Passed.{Passed}
-use Rattle.pairs.specs.declared.Passed.the-variants.{Clash}
-use Rattle.pairs.specs.Passing.{FunctionsTrue, EachTied, total, Passing, clash, tied, still, isClash, isNew, passedOf}
+use Rattle.pairs.specs.declared.Passed.the-variants.{Clash, New, Still}
+use Rattle.pairs.specs.Passing.{FunctionsTrue, EachTied, total, Passing, clash, tied, still, passedOf}
 
 module _ (s : Sheet) where
   -- a step that passes equalities on
@@ -37,14 +36,16 @@ module _ (s : Sheet) where
   sofar-table (fresh p l) = p .went refl .table
   sofar-table (same T e) = T
 
-  -- one more pass that found no clash
-  pub more : {P : ℕ → Leaves} {old d new : List ℕ} {b : Bool} {m : ℕ} {r : Passed} → Sofar P old d b m → Passing s (P m) d new r
-      → isClash r ≡ false → Sofar P old new (b || isNew r) (m + 1)
-  more S (clash R K) e = absurd (true≢false e)
-  more (fresh p l) (tied w k f) e = fresh (on p (arrived k w)) (omega arith)
-  more (fresh p l) (still q) e = fresh p l
-  more (same T h) (tied w k f) e = fresh (arrived k w) f
-  more {P} {old} {m = m} (same T h) (still q) e = same T (below-more (λ k. P k (cell old)) m h q)
+  -- one more pass, that tied something or found nothing to do
+  pub more-new : {P : ℕ → Leaves} {old d new : List ℕ} {b : Bool} {m : ℕ} → Sofar P old d b m → Passing s (P m) d new New
+      → Sofar P old new true (m + 1)
+  more-new (fresh p l) (tied w k f) = fresh (on p (arrived k w)) (omega arith)
+  more-new (same T h) (tied w k f) = fresh (arrived k w) f
+
+  pub more-still : {P : ℕ → Leaves} {old d new : List ℕ} {b : Bool} {m : ℕ} → Sofar P old d b m → Passing s (P m) d new Still
+      → Sofar P old new b (m + 1)
+  more-still (fresh p l) (still q) = fresh p l
+  more-still {P} {old} {m = m} (same T h) (still q) = same T (below-more (λ k. P k (cell old)) m h q)
 
   -- what the loop answers
   pub ended : {P : ℕ → Leaves} {old d : List ℕ} {b : Bool} {m : ℕ} → Sofar P old d b m → Passing s (EachTied P m) old d (passedOf b)
@@ -52,9 +53,7 @@ module _ (s : Sheet) where
   ended (same T h) = still (record { each = h })
 
   -- a clash after some passes is one from the start
-  pub clash-after : {P : ℕ → Leaves} {Q P' : Leaves} {old d new : List ℕ} {b : Bool} {m : ℕ} {r : Passed}
-      → Sofar P old d b m → Passing s Q d new r → isClash r ≡ true → Passing s P' old new Clash
-  clash-after (fresh p l) (clash R K) e = clash (λ D v D> M q. R D v D> (p .went refl .met D v D> M q) q) (kept-on (p .kept) K)
-  clash-after (same T h) (clash R K) e = clash R K
-  clash-after S (tied w k f) e = absurd (true≢false (sym e))
-  clash-after S (still q) e = absurd (true≢false (sym e))
+  pub clash-after : {P : ℕ → Leaves} {Q P' : Leaves} {old d new : List ℕ} {b : Bool} {m : ℕ}
+      → Sofar P old d b m → Passing s Q d new Clash → Passing s P' old new Clash
+  clash-after (fresh p l) (clash R K) = clash (λ D v D> M q. R D v D> (p .went refl .met D v D> M q) q) (kept-on (p .kept) K)
+  clash-after (same T h) (clash R K) = clash R K

@@ -9,7 +9,7 @@ ghost use Rattle.cells.specs.Cells.{cells, cell};
 ghost use Rattle.sheet.specs.Decode.{Sized, sheetOf};
 ghost use Rattle.sheet.specs.Sheet.{WellFormed, countTerms};
 ghost use Rattle.settled.specs.Settled.{points};
-ghost use Rattle.pairs.specs.Passing.{FunctionsPut, RowTied, AllTied, Passing, isClash, isNew, passedOf};
+ghost use Rattle.pairs.specs.Passing.{FunctionsPut, RowTied, AllTied, Passing, passedOf};
 use pairs::Passed;
 use sheet::TermNumber;
 
@@ -19,15 +19,13 @@ pub fn settle(sheet: &[u8], d: &mut [u32]) -> bool
     requires { ⌜ (length (now d) ≡ cells) × Table (points (sheetOf (now sheet))) (cell (now d)) ⌝ }
     ensures { λ r. ⌜ FunctionsPut (sheetOf (now (sheet .entry))) (now (d .entry)) (now (d .exit)) r ⌝ }
 {
-    let mut going = true;
-    while going {
-        let r = pass(sheet, d);
-        if is_clash(r) {
-            return false;
+    loop {
+        match pass(sheet, d) {
+            Passed::Clash => return false,
+            Passed::New => {}
+            Passed::Still => return true,
         }
-        going = is_new(r);
     }
-    true
 }
 
 // One pass over all pairs of terms.
@@ -40,11 +38,11 @@ fn pass(sheet: &[u8], d: &mut [u32]) -> Passed
     let mut fresh = false;
     let mut i = 0;
     while i < t {
-        let r = pass_row(sheet, d, TermNumber(i as u8));
-        if is_clash(r) {
-            return Passed::Clash;
+        match pass_row(sheet, d, TermNumber(i as u8)) {
+            Passed::Clash => return Passed::Clash,
+            Passed::New => fresh = true,
+            Passed::Still => {}
         }
-        fresh = fresh | is_new(r);
         i += 1;
     }
     answered(fresh)
@@ -56,41 +54,21 @@ fn pass_row(sheet: &[u8], d: &mut [u32], i: TermNumber) -> Passed
     requires { ⌜ (length (now d) ≡ cells) × Table (points (sheetOf (now sheet))) (cell (now d)) ⌝ }
     ensures { λ r. ⌜ Passing (sheetOf (now (sheet .entry))) (RowTied (sheetOf (now (sheet .entry))) (i .0)) (now (d .entry)) (now (d .exit)) r ⌝ }
 {
-    if !joined::is_application(reading::term_at(sheet, i)) {
+    if !joined::is_application(sheet, i) {
         return Passed::Still;
     }
     let at = i.0 as usize;
     let mut fresh = false;
     let mut j = 0;
     while j < at {
-        let r = pairs::pass_pair(sheet, d, i, TermNumber(j as u8));
-        if is_clash(r) {
-            return Passed::Clash;
+        match pairs::pass_pair(sheet, d, i, TermNumber(j as u8)) {
+            Passed::Clash => return Passed::Clash,
+            Passed::New => fresh = true,
+            Passed::Still => {}
         }
-        fresh = fresh | is_new(r);
         j += 1;
     }
     answered(fresh)
-}
-
-fn is_clash(r: Passed) -> bool
-    ensures { λ t. ⌜ t ≡ isClash r ⌝ }
-{
-    match r {
-        Passed::Clash => true,
-        Passed::New => false,
-        Passed::Still => false,
-    }
-}
-
-fn is_new(r: Passed) -> bool
-    ensures { λ t. ⌜ t ≡ isNew r ⌝ }
-{
-    match r {
-        Passed::Clash => false,
-        Passed::New => true,
-        Passed::Still => false,
-    }
 }
 
 fn answered(fresh: bool) -> Passed

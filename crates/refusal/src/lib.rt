@@ -1,7 +1,7 @@
 // When the panel sends a sheet back: the refusal table as code, equal to the table of grounds for any bytes and any answer room.
 // It rests on the tests of its rows and on the lowest places, and puts them in order.
 ghost use mathlib.Core.Path.{_≡_};
-ghost use Rattle.grounds.specs.Table.{sheetRefusal, refusal};
+ghost use Rattle.grounds.specs.Table.{refusal};
 ghost use Rattle.refusal.specs.Says.{checkSays, numberOf, placeOf};
 use sheet::EntryNumber;
 use sheet::TermNumber;
@@ -52,22 +52,6 @@ impl Refusal {
 pub fn check(sheet: &[u8], room: usize) -> Checked
     ensures { λ r. ⌜ checkSays r ≡ refusal (now (sheet .entry)) room ⌝ }
 {
-    match check_sheet(sheet) {
-        Checked::Refused(why) => Checked::Refused(why),
-        Checked::Fine => {
-            if room < sheet::ROOM_NEEDED {
-                Checked::Refused(Refusal::Room)
-            } else {
-                Checked::Fine
-            }
-        }
-    }
-}
-
-// The sheet's own refusals.
-pub fn check_sheet(sheet: &[u8]) -> Checked
-    ensures { λ r. ⌜ checkSays r ≡ sheetRefusal (now (sheet .entry)) ⌝ }
-{
     if rows::wrong_length(sheet) {
         return Checked::Refused(Refusal::Length);
     }
@@ -85,5 +69,9 @@ pub fn check_sheet(sheet: &[u8]) -> Checked
     if e.0 < sheet[4] {
         return Checked::Refused(Refusal::WrongEntry(e));
     }
-    Checked::Fine
+    if room < sheet::ROOM_NEEDED {
+        Checked::Refused(Refusal::Room)
+    } else {
+        Checked::Fine
+    }
 }

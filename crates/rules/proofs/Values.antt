@@ -39,12 +39,11 @@ module _ (x y z c D : ℕ) where
     pub value-equal : Decides (x + 32768 * D ≡ y + c * D) r → Decides (subℕ x z ≡ other) r
     value-equal = told equal-to equal-from
 
-    -- p and q are the two numbers, as the code has them
-    pub value-related : {p q : ℕ} (R : Relation) → p ≡ x + 32768 * D → q ≡ y + c * D → Decides (Related p R q) r → Decides (Compares R (subℕ x z) other) r
-    value-related equal f g = told (λ e. equal-to (omega arith)) (λ e. omega (arith, equal-from e))
-    value-related unequal f g = told (λ n e. n (omega (arith, equal-from e))) (λ n e. n (equal-to (omega arith)))
-    value-related atMost f g = told (λ l. omega (arith, crosswise)) (λ l. omega (arith, crosswise))
-    value-related less f g = told (λ l. omega (arith, crosswise)) (λ l. omega (arith, crosswise))
+    pub value-related : (R : Relation) → Decides (Related (x + 32768 * D) R (y + c * D)) r → Decides (Compares R (subℕ x z) other) r
+    value-related equal = value-equal
+    value-related unequal = told (λ n e. n (equal-from e)) (λ n e. n (equal-to e))
+    value-related atMost = told (λ l. omega (arith, crosswise)) (λ l. omega (arith, crosswise))
+    value-related less = told (λ l. omega (arith, crosswise)) (λ l. omega (arith, crosswise))
 
 -- zero's own value adds nothing
 pub value-number : (x z c D : ℕ) {r : Bool} → Decides (x + 32768 * D ≡ z + c * D) r → Decides (subℕ x z ≡ subℕ c 32768 *ℤ pos D) r

@@ -1,18 +1,27 @@
--- What the pair loop tests, on the keys and the levels v of the terms: one and two have the first keys and the second.
+-- What the pair loop tests, on the keys and the levels v of the terms. The keys of term j stand at j, the first, and at maxTerms + j, the second.
 -- Assumes nothing.
-use Prim.Native.Nat.{ℕ, _+_, _/_, _%_, _<_}
+use Prim.Native.Nat.{ℕ, _+_, _*_, _/_, _%_, _<_}
 use mathlib.Core.Path.{_≡_}
 use mathlib.Core.Bool.{Bool, true, false}
 use mathlib.Core.List.{List}
-use lib.ListN.{getD}
+use lib.ListN.{getD, set}
+use Rattle.sheet.specs.Limits.{maxTerms}
 
--- terms i and j, whose first keys are equal, have different second keys or one level
-pub record Agree (two v : List ℕ) (i j : ℕ) : Type 0 where
-  pub agree : getD two j 0 ≡ getD two i 0 → getD v j 0 ≡ getD v i 0
+-- how many keys there are
+abbrev pub keyCount : ℕ
+keyCount = 2 * maxTerms
 
--- term i has the level of every term before it that has its input
-pub record RowAgrees (one two v : List ℕ) (i : ℕ) : Type 0 where
-  pub row : 0 < getD one i 0 → (j : ℕ) → j < i → getD one j 0 ≡ getD one i 0 → Agree two v i j
+-- the keys with those of term i
+abbrev pub stored : List ℕ → ℕ → ℕ → ℕ → List ℕ
+stored keys i first second = set (set keys i first) (maxTerms + i) second
+
+-- the terms before the k-th that have both keys have the level
+pub record Alike (keys v : List ℕ) (first second level k : ℕ) : Type 0 where
+  pub alike : (j : ℕ) → j < k → getD keys j 0 ≡ first → getD keys (maxTerms + j) 0 ≡ second → getD v j 0 ≡ level
+
+-- the i-th, with these keys and this level, has the level of every term before it that has its input
+pub record RowAgrees (keys v : List ℕ) (first second level i : ℕ) : Type 0 where
+  pub row : 0 < first → Alike keys v first second level i
 
 -- how many shelves there are
 abbrev pub shelfCount : ℕ
@@ -23,5 +32,5 @@ abbrev pub shelfOf : ℕ → ℕ
 shelfOf key = (key / 512 + key % 512) % shelfCount
 
 -- the shelf of each first key before the k-th is taken
-pub record Shelved (one : List ℕ) (shelves : List Bool) (k : ℕ) : Type 0 where
-  pub taken : (j : ℕ) → j < k → 0 < getD one j 0 → getD shelves (shelfOf (getD one j 0)) false ≡ true
+pub record Shelved (keys : List ℕ) (shelves : List Bool) (k : ℕ) : Type 0 where
+  pub taken : (j : ℕ) → j < k → 0 < getD keys j 0 → getD shelves (shelfOf (getD keys j 0)) false ≡ true

@@ -3,38 +3,43 @@
 // keys and another level.
 ghost use mathlib.Core.Path.{_≡_};
 ghost use Prim.Native.Nat.{_+_, _<_};
-ghost use lib.ListN.{length, getD};
+ghost use lib.ListN.{length};
 ghost use Rattle.sheet.specs.Limits.{maxTerms};
 ghost use Rattle.meaning.specs.Decides.{Decides};
-ghost use Rattle.shelves.specs.Rows.{Agree, RowAgrees, shelfCount, shelfOf, Shelved};
-use sheet::TermNumber;
+ghost use Rattle.shelves.specs.Rows.{keyCount, stored, Alike, RowAgrees, shelfCount, shelfOf, Shelved};
+
+// Places for the terms' first keys, and behind them for their second.
+pub const KEYS: usize = 2 * sheet::MAX_TERMS;
 
 // How many shelves the first keys are spread over.
 pub const SHELVES: usize = 256;
 
-// Whether term i has the level of each term before it that has its input. An empty shelf says that none has, and spares the comparisons.
-// The contract has the length of the shelves, since a proof doesn't see that of an array behind a reference.
+// Stores the keys of term i, and answers whether it has the level of each term before it that has its input. An empty shelf says that
+// none has, and spares the comparisons. A term without an input has 0 as its first key, and is compared with none.
+// The contract has the lengths of the lent arrays, since a proof doesn't see that of an array behind a reference.
 pub fn row(
-    one: &[u64; sheet::MAX_TERMS],
-    two: &[u64; sheet::MAX_TERMS],
-    v: &[u64],
+    keys: &mut [u64; KEYS],
     shelves: &mut [bool; SHELVES],
-    i: TermNumber,
+    v: &[u64],
+    first: u64,
+    second: u64,
+    level: u64,
+    i: usize,
 ) -> bool
-    requires { ⌜ (i .0 < maxTerms) × (i .0 < length (now v)) × (length (now shelves) ≡ shelfCount) × Shelved (now one) (now shelves) (i .0) ⌝ }
-    ensures agrees { λ r. ⌜ Decides (RowAgrees (now (one .entry)) (now (two .entry)) (now (v .entry)) (i .0)) r ⌝ }
-    ensures shelved { λ _. ⌜ (length (now (shelves .exit)) ≡ shelfCount) × Shelved (now (one .entry)) (now (shelves .exit)) (i .0 + 1) ⌝ }
+    requires { ⌜ (i < maxTerms) × (i < length (now v)) × (length (now keys) ≡ keyCount) × (length (now shelves) ≡ shelfCount) × Shelved (now keys) (now shelves) i ⌝ }
+    ensures agrees { λ r. ⌜ Decides (RowAgrees (now (keys .exit)) (now (v .entry)) first second level i) r ⌝ }
+    ensures stored { λ _. ⌜ now (keys .exit) ≡ stored (now (keys .entry)) i first second ⌝ }
+    ensures shelved { λ _. ⌜ (length (now (shelves .exit)) ≡ shelfCount) × Shelved (now (keys .exit)) (now (shelves .exit)) (i + 1) ⌝ }
 {
-    let key = one[i.0 as usize];
-    if key == 0 {
-        return true;
+    keys[i] = first;
+    keys[sheet::MAX_TERMS + i] = second;
+    let shelf = shelf_of(first);
+    if shelves[shelf] & (first != 0) {
+        compare(keys, v, first, second, level, i)
+    } else {
+        shelves[shelf] = true;
+        true
     }
-    let shelf = shelf_of(key);
-    if shelves[shelf] {
-        return compare(one, two, v, key, i);
-    }
-    shelves[shelf] = true;
-    true
 }
 
 // Adds up both parts of a key, the height and the symbol, so that terms that differ in either are spread.
@@ -44,39 +49,17 @@ pub fn shelf_of(key: u64) -> usize
     (key / 512 + key % 512) as usize % SHELVES
 }
 
-// The same, term by term.
-fn compare(
-    one: &[u64; sheet::MAX_TERMS],
-    two: &[u64; sheet::MAX_TERMS],
-    v: &[u64],
-    key: u64,
-    i: TermNumber,
-) -> bool
-    requires { ⌜ (i .0 < maxTerms) × (i .0 < length (now v)) × (key ≡ getD (now one) (i .0) 0) × (0 < key) ⌝ }
-    ensures { λ r. ⌜ Decides (RowAgrees (now (one .entry)) (now (two .entry)) (now (v .entry)) (i .0)) r ⌝ }
+// The same, term by term. No test jumps, so that several terms can be compared at once.
+fn compare(keys: &[u64; KEYS], v: &[u64], first: u64, second: u64, level: u64, k: usize) -> bool
+    requires { ⌜ (k < maxTerms) × (k < length (now v)) ⌝ }
+    ensures { λ r. ⌜ Decides (Alike (now (keys .entry)) (now (v .entry)) first second level k) r ⌝ }
 {
-    let at = i.0 as usize;
+    let mut alike = true;
     let mut j = 0;
-    while j < at {
-        if one[j] == key {
-            if !agree(two, v, i, TermNumber(j as u8)) {
-                return false;
-            }
-        }
+    while j < k {
+        alike = alike
+            & ((keys[j] != first) | (keys[sheet::MAX_TERMS + j] != second) | (v[j] == level));
         j += 1;
     }
-    true
-}
-
-// Of terms whose first keys are equal: they have one level, unless their second keys tell them apart.
-fn agree(two: &[u64; sheet::MAX_TERMS], v: &[u64], i: TermNumber, j: TermNumber) -> bool
-    requires { ⌜ (i .0 < maxTerms) × (i .0 < length (now v)) × (j .0 < i .0) ⌝ }
-    ensures { λ r. ⌜ Decides (Agree (now (two .entry)) (now (v .entry)) (i .0) (j .0)) r ⌝ }
-{
-    let own = i.0 as usize;
-    let other = j.0 as usize;
-    if two[other] != two[own] {
-        return true;
-    }
-    v[other] == v[own]
+    alike
 }

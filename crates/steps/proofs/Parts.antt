@@ -39,8 +39,8 @@ module _ {n a b : ℕ} (c : ℕ) {g : ℕ} {old new : List ℕ} {r : Bool} (a< :
 -- both are the tie; a refusal of the first is one of it
 pub tie-refused : {n a b : ℕ} (c : ℕ) {g : ℕ} {old new : List ℕ} {r : Bool} → a < n → b < n → Table n (cell old)
     → Weak g c 32768 → Inserted n old new a b g r → r ≡ false
-    → Stepped n (TieTrue a b (subℕ c 32768)) (λ d. TiedAt d a b (subℕ c 32768)) old new false
-tie-refused c a< b< T w I e = refused e (changed (λ D v t. rw (t .tied) (omega arith)) (λ d h. h) (at-most-put c a< b< T w I))
+    → Stepped n (TieTrue a b (subℕ c 32768)) (λ d. TiedAt d a b (subℕ c 32768)) old new r
+tie-refused c a< b< T w I e = rw e (refused e (changed (λ D v t. rw (t .tied) (omega arith)) (λ d h. h) (at-most-put c a< b< T w I)))
 
 pub tie-put : {n a b : ℕ} (c : ℕ) {g h : ℕ} {old mid new : List ℕ} {q r : Bool} → a < n → b < n → Table n (cell old)
     → Weak g c 32768 → Inserted n old mid a b g q → q ≡ true → Weak h 32768 c → Inserted n mid new b a h r

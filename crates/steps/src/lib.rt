@@ -19,10 +19,7 @@ pub fn put_tie(d: &mut [u32], n: usize, a: usize, b: usize, c: Biased) -> bool
     requires { ⌜ Table n (cell (now d)) ⌝ }
     ensures { λ r. ⌜ Stepped n (TieTrue a b (biasedSays c)) (λ t. TiedAt t a b (biasedSays c)) (now (d .entry)) (now (d .exit)) r ⌝ }
 {
-    if !table::insert(d, n, a, b, to(c)) {
-        return false;
-    }
-    table::insert(d, n, b, a, back(c))
+    table::insert(d, n, a, b, to(c)) && table::insert(d, n, b, a, back(c))
 }
 
 // The gap c, the gap -c, and c strict.

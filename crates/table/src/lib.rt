@@ -16,6 +16,9 @@ pub const STRIDE: usize = cells::STRIDE;
 
 pub const CELLS: usize = cells::CELLS;
 
+// What the codes of a gap and of the same one back add up to.
+const THERE_AND_BACK: u64 = 2 * (gap::ZERO as u64);
+
 // The table of no bounds between n points.
 pub fn start(d: &mut [u32], n: usize)
     requires { ⌜ (length (now d) ≡ cells) × (n ≤ stride) ⌝ }
@@ -38,7 +41,7 @@ pub fn insert(d: &mut [u32], n: usize, a: usize, b: usize, g: Gap) -> bool
     if cells::gap_at(d, a, b).0 <= g.0 {
         return true;
     }
-    if g.sum(cells::gap_at(d, b, a)).0 < Gap::ZERO.0 {
+    if g.sum(cells::gap_at(d, b, a)).0 < gap::ZERO {
         return false;
     }
     relax_rows(d, n, a, b, g);
@@ -68,24 +71,11 @@ pub fn tied(d: &[u32], a: usize, b: usize) -> Gap
     requires { ⌜ (length (now d) ≡ cells) × (a < stride) × (b < stride) ⌝ }
     ensures { λ r. ⌜ r .0 ≡ tieOf (cell (now (d .entry))) a b ⌝ }
 {
-    let to = cells::gap_at(d, a, b);
-    if is_tie(to.0, cells::gap_at(d, b, a).0) {
-        to
+    let to = cells::gap_at(d, a, b).0;
+    let back = cells::gap_at(d, b, a).0;
+    if (to % 2 == 0) & (to as u64 + back as u64 == THERE_AND_BACK) {
+        Gap(to)
     } else {
         Gap::NONE
     }
-}
-
-// Whether two codes are a gap and the same one back, neither strict.
-fn is_tie(to: u32, back: u32) -> bool
-    ensures { λ r. ⌜ r ≡ tie to back ⌝ }
-{
-    (to % 2 == 0) & (wide(to) + wide(back) == 2 * wide(Gap::ZERO.0))
-}
-
-// A code with room to add another.
-pub fn wide(x: u32) -> u64
-    ensures { λ r. ⌜ r ≡ x ⌝ }
-{
-    x as u64
 }

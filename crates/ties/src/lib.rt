@@ -8,14 +8,13 @@ ghost use Rattle.closure.specs.Table.{reach};
 ghost use Rattle.cells.specs.Cells.{stride, cells, cell};
 ghost use Rattle.order.specs.First.{marked};
 ghost use Rattle.sheet.specs.Decode.{Sized, sheetOf};
-ghost use Rattle.sheet.specs.Says.{biasedSays, entrySays};
+ghost use Rattle.sheet.specs.Says.{biasedSays};
 ghost use Rattle.sheet.specs.Sheet.{WellFormed, countEntries};
 ghost use Rattle.meaning.specs.Decides.{Decides};
 ghost use Rattle.settled.specs.Settled.{points};
-ghost use Rattle.ties.specs.Ties.{Broken, BrokenAt, Checked};
+ghost use Rattle.ties.specs.Ties.{BrokenAt, Checked};
 use gap::Gap;
 use sheet::Biased;
-use sheet::Entry;
 use sheet::EntryNumber;
 use sheet::Relation;
 
@@ -46,6 +45,7 @@ pub fn apart(sheet: &[u8], set: &[bool], d: &[u32]) -> bool
     true
 }
 
+// Whether entry e is in the set, and a ≠ entry on terms tied at exactly its c.
 fn broken_at(sheet: &[u8], set: &[bool], d: &[u32], e: EntryNumber) -> bool
     requires { ⌜ Sized (now sheet) × WellFormed (sheetOf (now sheet)) ⌝ }
     requires { ⌜ (e .0 < countEntries (sheetOf (now sheet))) × (e .0 < length (now set)) × (length (now d) ≡ cells) ⌝ }
@@ -55,24 +55,11 @@ fn broken_at(sheet: &[u8], set: &[bool], d: &[u32], e: EntryNumber) -> bool
     if !set[e.0 as usize] {
         return false;
     }
-    is_broken(
-        d,
-        reading::count_terms(sheet) + 1,
-        reading::entry_at(sheet, e),
-    )
-}
-
-// A ≠ entry on terms tied at exactly its c.
-fn is_broken(d: &[u32], n: usize, e: Entry) -> bool
-    requires { ⌜ (length (now d) ≡ cells) × (n ≤ stride) × Closed n (reach n) (cell (now d)) ⌝ }
-    requires { ⌜ (e .a .0 < n) × (e .b .0 < n) ⌝ }
-    ensures { λ r. ⌜ Decides (Broken (cell (now (d .entry))) (entrySays e)) r ⌝ }
-{
-    let a = e.a.0 as usize;
-    let b = e.b.0 as usize;
-    let relation = e.relation;
+    let n = reading::count_terms(sheet) + 1;
+    let entry = reading::entry_at(sheet, e);
+    let relation = entry.relation;
     match relation {
-        Relation::Unequal => tied_at(d, n, a, b, e.c),
+        Relation::Unequal => tied_at(d, n, entry.a.0 as usize, entry.b.0 as usize, entry.c),
         _ => false,
     }
 }

@@ -2,12 +2,12 @@
 // It rests on closed tables (closure, table) and on levels' theorem, and writes D and one n per term as the answer record.
 // It promises that these meet the sheet on every set of entries for which the table is settled (settled, specs/Settled.antt; specs/Written.antt).
 ghost use mathlib.Core.Path.{_≡_};
-ghost use Prim.Native.Nat.{ℕ, _*_, _^_, _≤_, _<_, min};
+ghost use Prim.Native.Nat.{ℕ, _*_, _≤_, _<_};
 ghost use lib.ListN.{length, getD};
 ghost use Rattle.kind.specs.Code.{half, none};
 ghost use Rattle.closure.specs.Closed.{Closed};
 ghost use Rattle.closure.specs.Table.{reach};
-ghost use Rattle.levels.specs.Level.{wholeAt, sumTo, leastOf, termOf, lowestOf, levelOf};
+ghost use Rattle.levels.specs.Level.{sumTo, leastOf, termOf, lowestOf, levelOf};
 ghost use Rattle.cells.specs.Cells.{stride, cells, cell};
 ghost use Rattle.sheet.specs.Decode.{Sized, sheetOf};
 ghost use Rattle.sheet.specs.Sheet.{WellFormed};
@@ -30,27 +30,18 @@ pub fn write(sheet: &[u8], d: &[u32], room: &mut [u8]) -> usize
     writing::holds(room, (n * n) as u64, &v, terms)
 }
 
-// The levels of all n points.
+// The levels of all n points, in parts of n * n. The lowest tied point sets untied points apart that the sums would leave equal.
 fn levels(d: &[u32], n: usize, v: &mut [u64])
     requires { ⌜ (length (now d) ≡ cells) × (n ≤ stride) × (n ≤ length (now v)) × Closed n (reach n) (cell (now d)) ⌝ }
     ensures { λ _. ⌜ ((i : ℕ) → i < n → getD (now (v .exit)) i 0 ≡ levelOf n (reach n) (cell (now (d .entry))) i) ⌝ }
 {
     let mut i = 0;
     while i < n {
-        v[i] = level(d, i, n);
+        // Where there is no gap: 2 R + 1 above the row's least, where R is n * 32,768.
+        let other = (n as u64) * 65536 + 1 + least(d, i, n);
+        v[i] = (n as u64) * total(d, i, n, other) + (lowest(d, i) as u64);
         i += 1;
     }
-}
-
-// The level of point i of n, in parts of n * n. The lowest tied point sets untied points apart that the sums would leave equal.
-fn level(d: &[u32], i: usize, n: usize) -> u64
-    requires { ⌜ (length (now d) ≡ cells) × (i < n) × (n ≤ stride) ⌝ }
-    requires { ⌜ Closed n (reach n) (cell (now d)) ⌝ }
-    ensures { λ r. ⌜ (r ≡ levelOf n (reach n) (cell (now (d .entry))) i) × (r < 2 ^ 48) ⌝ }
-{
-    // Where there is no gap: 2 R + 1 above the row's least, where R is n * 32,768.
-    let other = (n as u64) * 65536 + 1 + least(d, i, n);
-    (n as u64) * total(d, i, n, other) + (lowest(d, i) as u64)
 }
 
 // The lowest point that i is tied with. A gap back of more than 0 leaves each tie below NONE.
@@ -60,7 +51,7 @@ fn lowest(d: &[u32], i: usize) -> usize
 {
     let mut k = 0;
     while k < i {
-        if table::tied(d, i, k).0 < Gap::NONE.0 {
+        if table::tied(d, i, k).0 < gap::NONE {
             return k;
         }
         k += 1;
@@ -82,37 +73,28 @@ fn total(d: &[u32], i: usize, n: usize, other: u64) -> u64
     sum
 }
 
-// The least whole number of row i, or 0.
+// The least whole number of row i, or 0: that of the tightest gap.
 fn least(d: &[u32], i: usize, n: usize) -> u64
     requires { ⌜ (length (now d) ≡ cells) × (i < stride) × (n ≤ stride) ⌝ }
     ensures { λ r. ⌜ (r ≡ leastOf n (cell (now (d .entry)) i)) × (r ≤ half) ⌝ }
 {
-    let mut m = whole(Gap::ZERO.0);
+    let mut m = Gap::ZERO;
     let mut s = 0;
     while s < n {
-        m = lesser(m, whole(cells::gap_at(d, i, s).0));
+        m = m.tighter(cells::gap_at(d, i, s));
         s += 1;
     }
-    m
+    term(0, m.0)
 }
 
-// The whole number of a gap that is there, or another number.
+// The whole number of a gap that is there, from the bias `half` up, or another number: a difference of two loses the bias.
 fn term(other: u64, g: u32) -> u64
     requires { ⌜ other ≤ none ⌝ }
     ensures { λ r. ⌜ (r ≡ termOf other g) × (r ≤ none) ⌝ }
 {
-    if g < Gap::NONE.0 { whole(g) } else { other }
-}
-
-// The whole number of a code, from the bias `half` up: a difference of two loses the bias.
-fn whole(g: u32) -> u64
-    ensures { λ r. ⌜ r ≡ wholeAt g ⌝ }
-{
-    (table::wide(g) + 1) / 2
-}
-
-fn lesser(x: u64, y: u64) -> u64
-    ensures { λ r. ⌜ r ≡ min x y ⌝ }
-{
-    if x < y { x } else { y }
+    if g < gap::NONE {
+        (g as u64 + 1) / 2
+    } else {
+        other
+    }
 }

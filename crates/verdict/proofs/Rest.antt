@@ -19,8 +19,8 @@ use Rattle.pairs.specs.Passing.{FunctionsPut}
 use Rattle.verdict.specs.Entered.{RestTrue, RestPut, EnteredPut}
 
 module _ (s : Sheet) (S : Set) (W : WellFormed s) {old new : List ℕ} {r : Bool} (A : FunctionsPut s old new r) where
-  pub not-passed : r ≡ false → RestPut s S old new false
-  not-passed e = refused e (changed (λ D v q. q .functions) (λ d h. h) A)
+  pub not-passed : r ≡ false → RestPut s S old new r
+  not-passed e = rw e (refused e (changed (λ D v q. q .functions) (λ d h. h) A))
 
   module _ (e : r ≡ true) {sound : Bool} (B : Checked s S (cell new) sound) where
     -- a ≠ entry's terms that the table ties at its c are apart by c in whatever meets the table

@@ -11,7 +11,7 @@ ghost use Rattle.sheet.specs.Decode.{Sized, sheetOf};
 ghost use Rattle.sheet.specs.Sheet.{WellFormed, countEntries};
 ghost use Rattle.settled.specs.Settled.{points};
 ghost use Rattle.verdict.specs.Judged.{verdictOf, Judged};
-ghost use Rattle.verdict.specs.Entered.{RestPut, EnteredPut};
+ghost use Rattle.verdict.specs.Entered.{EnteredPut};
 
 pub enum Verdict {
     Holds,
@@ -29,7 +29,7 @@ pub fn on(sheet: &[u8], set: &[bool], d: &mut [u32]) -> Verdict
     if !bounds::put_terms(sheet, d) {
         return Verdict::Clashes;
     }
-    told(enter(sheet, set, d))
+    told(finish(sheet, set, d))
 }
 
 fn told(sound: bool) -> Verdict
@@ -42,8 +42,8 @@ fn told(sound: bool) -> Verdict
     }
 }
 
-// With all terms in: puts the entries in, and goes on from there.
-fn enter(sheet: &[u8], set: &[bool], d: &mut [u32]) -> bool
+// With all terms in: puts the entries in, passes equalities on, then looks at the ≠ entries.
+fn finish(sheet: &[u8], set: &[bool], d: &mut [u32]) -> bool
     requires { ⌜ Sized (now sheet) × WellFormed (sheetOf (now sheet)) ⌝ }
     requires { ⌜ countEntries (sheetOf (now sheet)) ≤ length (now set) ⌝ }
     requires { ⌜ (length (now d) ≡ cells) × Table (points (sheetOf (now sheet))) (cell (now d)) ⌝ }
@@ -52,18 +52,5 @@ fn enter(sheet: &[u8], set: &[bool], d: &mut [u32]) -> bool
     if !bounds::put_entries(sheet, set, d) {
         return false;
     }
-    finish(sheet, set, d)
-}
-
-// With all terms and entries in: passes equalities on, then looks at the ≠ entries.
-fn finish(sheet: &[u8], set: &[bool], d: &mut [u32]) -> bool
-    requires { ⌜ Sized (now sheet) × WellFormed (sheetOf (now sheet)) ⌝ }
-    requires { ⌜ countEntries (sheetOf (now sheet)) ≤ length (now set) ⌝ }
-    requires { ⌜ (length (now d) ≡ cells) × Table (points (sheetOf (now sheet))) (cell (now d)) ⌝ }
-    ensures { λ r. ⌜ RestPut (sheetOf (now (sheet .entry))) (marked (now (set .entry))) (now (d .entry)) (now (d .exit)) r ⌝ }
-{
-    if !passes::settle(sheet, d) {
-        return false;
-    }
-    ties::apart(sheet, set, d)
+    passes::settle(sheet, d) && ties::apart(sheet, set, d)
 }

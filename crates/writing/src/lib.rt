@@ -10,16 +10,14 @@ ghost use Rattle.writing.specs.Head.{Headed};
 // The bytes that both records begin with.
 pub const HEAD: usize = 8;
 
-// Writes the head of a record of size bytes: verdict is 0 for holds and 1 for clashes, count is D or k.
+// Writes the head of a record of size bytes: verdict is 0 for holds and 1 for clashes, count is D or k. It is written as one number: the
+// length, 1, the verdict, the count and 0 are its digits.
 pub fn head(room: &mut [u8], size: usize, verdict: u8, count: u64)
     requires { ⌜ (headLength ≤ length (now room)) × (size < 65536) × (count < 65536) ⌝ }
     ensures { λ _. ⌜ Headed (now (room .entry)) (now (room .exit)) size verdict count ⌝ }
 {
-    big::write(room, 0, 2, size as u64);
-    big::write(room, 2, 1, 1);
-    big::write(room, 3, 1, verdict as u64);
-    big::write(room, 4, 2, count);
-    big::write(room, 6, 2, 0);
+    let bytes = (size as u64 * 256 + 1) * 256 + verdict as u64;
+    big::write(room, 0, 8, (bytes * 65536 + count) * 65536);
 }
 
 // Writes D and one n for each of t terms as the record, and answers its length. The values are given as levels, the zero level last.

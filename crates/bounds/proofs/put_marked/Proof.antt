@@ -13,6 +13,11 @@ use Rattle.bounds.proofs.put_marked.Tie as tie
 returns : tie.Need-returns
 returns c = unmarked (not-true _ (c .if1 .taken)) (c .before .before .before .before .before .before .pre .1 .1 .1)
 
+entry-at-requires : tie.Need-entry-at-requires
+entry-at-requires c κs =
+    let start = c .before .before .before .before .before .before .before .before in
+    (start .pre .0 .0, start .pre .1 .0 .0)
+
 put-entry-requires : tie.Need-put-entry-requires
 put-entry-requires c κs =
     let terms = c .before .count-terms .ensures in
@@ -31,5 +36,5 @@ returns-2 c =
 pub put-marked-spec : {M : Type 1} → statement M
 put-marked-spec =
     tie.close
-    (tie.spec (λ c. search needs) (λ c. search needs) returns (λ c κs. search needs) (λ c. search needs) (λ c κs. search needs)
+    (tie.spec (λ c. search needs) (λ c. search needs) returns (λ c κs. search needs) (λ c. search needs) entry-at-requires
     put-entry-requires (λ c. search needs) returns-2)

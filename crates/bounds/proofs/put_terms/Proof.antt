@@ -35,6 +35,9 @@ loop-holds c = (
   went-none (c .before .before .before .pre .1 .1) (record { terms = λ i l. absurd (omega arith) }),
 )
 
+term-at-requires : tie.Need-term-at-requires Inv-loop μ-loop
+term-at-requires c κs = (c .before .before .before .before .before .before .pre .0 .0, omega arith)
+
 put-term-requires : tie.Need-put-term-requires Inv-loop μ-loop
 put-term-requires c κs =
     let loop = c .before .before .before .loop in
@@ -73,5 +76,5 @@ returns-2 c =
 pub put-terms-spec : {M : Type 1} → statement M
 put-terms-spec =
     tie.close
-    (tie.spec Inv-loop μ-loop (λ c κs. search needs) loop-holds (λ c. search needs) (λ c κs. search needs) put-term-requires
+    (tie.spec Inv-loop μ-loop (λ c κs. search needs) loop-holds (λ c. search needs) term-at-requires put-term-requires
     (λ c. search needs) returns (λ c. search needs) (λ c. search needs) loop-again (λ c. search needs) returns-2)

@@ -5,6 +5,7 @@ use mathlib.Core.Path.{_≡_}
 use mathlib.Core.Logic.{⊎-elim}
 use lib.ListN.{getD}
 use native.Mathlib.Omega.{arith}
+use borrow.Author.Tests.{leb-true}
 use Rattle.kind.specs.Code.{none}
 use Rattle.whole.proofs.Order.{order}
 use Rattle.cells.proofs.past_there.Statement.{statement}
@@ -19,20 +20,17 @@ abbrev μ-loop : tie.MeasureT-loop
 loop-holds : tie.Need-loop-holds Inv-loop μ-loop
 loop-holds c = (omega arith, omega arith, λ j h l. absurd (omega arith))
 
-returns : tie.Need-returns Inv-loop μ-loop
-returns c =
-    let turn = c .before .before .before .before in
-    turn .loop .inv
-
 loop-again : tie.Need-loop-again Inv-loop μ-loop
 loop-again c =
-    let turn = c .before .before .before .before in
-    let start = turn .before in
+    let turn = c .before .before .before in
     let last : (j : ℕ) → j < turn .loop .k → turn .loop .k - 1 ≤ j → j ≡ turn .loop .k - 1 = λ j l h. omega arith in (
       omega arith,
       omega arith,
-      λ j h l. ⊎-elim (λ p. turn .loop .inv .2 j p l) (λ p. rw (last j p h) (c .if1 .left)) (order (turn .loop .k) j),
+      λ j h l. ⊎-elim (λ p. turn .loop .inv .2 j p l) (λ p. rw (last j p h) (omega (arith, leb-true))) (order (turn .loop .k) j),
     )
+
+returns : tie.Need-returns Inv-loop μ-loop
+returns c = c .before .before .before .loop .inv
 
 returns-2 : tie.Need-returns-2 Inv-loop μ-loop
 returns-2 c = c .before .loop .inv
@@ -40,5 +38,5 @@ returns-2 c = c .before .loop .inv
 pub past-there-spec : {M : Type 1} → statement M
 past-there-spec =
     tie.close
-    (tie.spec Inv-loop μ-loop loop-holds (λ c. omega arith) (λ c. omega arith) (λ c. omega arith) returns (λ c. omega arith)
-    (λ c. omega arith) loop-again returns-2)
+    (tie.spec Inv-loop μ-loop loop-holds (λ c. omega arith) (λ c. omega arith) (λ c. omega arith) (λ c. omega arith) (λ c. omega arith)
+    loop-again returns returns-2)

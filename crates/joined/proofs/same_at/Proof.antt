@@ -1,4 +1,4 @@
--- `joined::same_at` meets its contract: it reads the two terms.
+-- `joined::same_at` meets its contract: it reads the two records.
 -- Assumes nothing.
 use native.Mathlib.Omega.{arith}
 use borrow.Author.Needs.{needs}
@@ -14,13 +14,13 @@ same-input-requires c κs =
     let wf = start .pre .0 .1 in (
       (start .pre .1 .1 .0, omega (arith, wf .terms), rw (counted .count-terms .ensures .0) (start .pre .1 .1 .1)),
       (
-        rw (first .term-at .ensures) (arguments-wider (omega arith) (wf .arguments (start .args .i .0) (omega arith))),
-        rw (c .term-at2 .ensures) (arguments-wider (omega arith) (wf .arguments (start .args .j .0) (omega arith))),
+        rw (first .record-of .ensures) (arguments-wider (omega arith) (wf .arguments (start .args .i .0) (omega arith))),
+        rw (c .record-of2 .ensures) (arguments-wider (omega arith) (wf .arguments (start .args .j .0) (omega arith))),
       ),
     )
 
 returns : tie.Need-returns
-returns c = rw (c .before .before .term-at .ensures, c .before .term-at2 .ensures) at (c .same-input .ensures)
+returns c = rw (c .before .before .record-of .ensures, c .before .record-of2 .ensures) at (c .same-input .ensures)
 
 pub same-at-spec : {M : Type 1} → statement M
 same-at-spec =

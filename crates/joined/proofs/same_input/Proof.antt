@@ -1,32 +1,50 @@
--- `joined::same_input` meets its contract, kind by kind.
+-- `joined::same_input` meets its contract: kinds and symbols, then first arguments, then second (proofs/Inputs.antt).
 -- Assumes nothing.
-use borrow.Author.Needs.{needs}
-use Rattle.sheet.proofs.Below.{argument, arguments}
-use Rattle.joined.proofs.Inputs.{no-application}
+use mathlib.Core.Path.{sym, _∙_}
+use mathlib.Core.Bool.{true≢false}
+use mir.Facts.{fits-8-64}
+use borrow.Author.Tests.{not-true, not-false}
+use Rattle.meaning.proofs.Decides.{refuted}
+use Rattle.joined.proofs.Inputs.{one-symbol, not-other, firsts, seconds, says, one-told, two-told}
 use Rattle.joined.proofs.same_input.Statement.{statement}
 use Rattle.joined.proofs.same_input.Tie as tie
 
-same-one-requires : tie.Need-same-one-requires
-same-one-requires c κs =
-    let pre = c .before .before .before .before .pre in
-    (pre .0, (argument (rw (c .before .t .given .1) at (pre .1 .0)), pre .1 .1))
-
-same-two-requires : tie.Need-same-two-requires
-same-two-requires c κs =
-    let pre = c .before .before .before .before .pre in
-    let p = arguments (rw (c .before .t2 .given .1) at (pre .1 .0)) in
-    (pre .0, (p .0, p .1, pre .1 .1))
-
 returns : tie.Need-returns
-returns c = rw (c .before .before .t .given .1) (c .same-one .ensures)
+returns c = refuted (λ J. true≢false (sym (c .if1 .taken) ∙ not-other _ _ (says J .alike)))
+
+tied-at-requires : tie.Need-tied-at-requires
+tied-at-requires c κs =
+    let alike = c .before .before in
+    let start = alike .before .before .before .before .before in
+    (start .pre .0, firsts (one-symbol _ _ (alike .if1 .left)) (start .pre .1))
 
 returns-2 : tie.Need-returns-2
-returns-2 c = rw (c .before .before .t2 .given .1) (c .same-two .ensures)
+returns-2 c = refuted (λ J. c .before .tied-at .ensures .no (not-true _ (c .if2 .taken)) (says J .first))
+
+tied-at-requires-2 : tie.Need-tied-at-requires-2
+tied-at-requires-2 c κs =
+    let second = c .before .before in
+    let alike = second .before .before .before .before .before in
+    let start = alike .before .before .before .before .before in
+    (start .pre .0, seconds (one-symbol _ _ (alike .if1 .left)) (second .if3 .left) (start .pre .1))
 
 returns-3 : tie.Need-returns-3
-returns-3 c = no-application (c .before .before .args .t) (c .match .keys3)
+returns-3 c =
+    let first = c .before in
+    let alike = first .before .before .before .before in
+    one-told (one-symbol _ _ (alike .if1 .left)) (first .before .tied-at .ensures .yes (not-false _ (first .if2 .left))) (c .if3 .taken)
+
+returns-4 : tie.Need-returns-4
+returns-4 c =
+    let second = c .before .before .before in
+    let first = second .before in
+    let alike = first .before .before .before .before in
+    two-told (one-symbol _ _ (alike .if1 .left)) (first .before .tied-at .ensures .yes (not-false _ (first .if2 .left))) (second .if3 .left)
+    (c .tied-at2 .ensures)
 
 pub same-input-spec : {M : Type 1} → statement M
 same-input-spec =
     tie.close
-    (tie.spec (λ c. search needs) same-one-requires (λ c. search needs) same-two-requires returns returns-2 returns-3)
+    (tie.spec returns (λ c. search (fits-8-64, c .struct-known4 .given)) (λ c. search (fits-8-64, c .struct-known5 .given)) tied-at-requires returns-2
+    (λ c. search (fits-8-64, c .struct-known6 .given)) (λ c. search (fits-8-64, c .struct-known7 .given))
+    tied-at-requires-2 returns-3 returns-4)

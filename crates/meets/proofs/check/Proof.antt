@@ -2,9 +2,6 @@
 -- Assumes nothing.
 use native.Mathlib.Omega.{arith}
 use borrow.Author.Needs.{needs}
-use borrow.Author.Tests.{not-true, not-false}
-use Rattle.sheet.specs.Decode.{sheetOf}
-use Rattle.sheet.specs.Sheet.{countTerms}
 use Rattle.meaning.proofs.Decides.{refuted, told}
 use Rattle.keys.specs.Ready.{Near, Ready}
 use Rattle.meets.proofs.Joined.{near-of, terms-of, entries-of, met}
@@ -16,44 +13,48 @@ limits-requires c κs =
     let pre = c .before .before .before .before .pre in
     rw (c .count-terms .ensures .0) (pre .1 .0 .1, pre .1 .1 .2)
 
-returns : tie.Need-returns
-returns c =
-    let counted = c .before .before in
-    refuted (λ m. c .before .limits .ensures .no (not-true _ (c .if1 .taken)) (rw (counted .count-terms .ensures .0) (near-of m)))
-
--- what the limits leave
-near : (c : tie.Else1) →
-    let args = c .before .before .before .before .before .before .args in
-    Near (args .v .now) (countTerms (sheetOf (args .sheet .now)))
-near c = rw (c .before .before .count-terms .ensures .0) at (c .before .limits .ensures .yes (not-false _ (c .if1 .left)))
-
-ready : (c : tie.Else1) →
-    let args = c .before .before .before .before .before .before .args in
-    Ready (args .v .now) (countTerms (sheetOf (args .sheet .now)))
-ready c =
-    let pre = c .before .before .before .before .before .before .pre in
-    record { enough = pre .1 .0 .1; low = pre .1 .1 .2 _ (omega arith); near = near c }
+-- levels within the limits let the rest ask for what it does
+ready : (c : tie.After-count-terms) → let v = c .before .before .before .before .args .v .now in
+    Near v (c .count-terms .result) → Ready v (c .count-terms .result)
+ready c near =
+    let pre = c .before .before .before .before .pre in
+    rw (c .count-terms .ensures .0) (record { enough = pre .1 .0 .1; low = pre .1 .1 .2 _ (omega arith); near = rw (c .count-terms .ensures .0) at near })
 
 terms-requires : tie.Need-terms-requires
-terms-requires c κs = let pre = c .before .before .before .before .before .before .pre in (pre .0, (pre .1 .1 .1, ready c))
-
-returns-2 : tie.Need-returns-2
-returns-2 c = refuted (λ m. c .before .terms .ensures .no (not-true _ (c .if2 .taken)) (terms-of m))
+terms-requires c κs =
+    let counted = c .before .before in
+    let pre = counted .before .before .before .before .pre in
+    (pre .0, (counted .count-terms .ensures .0, pre .1 .1 .1, ready counted (c .before .limits .ensures .yes (c .if1 .taken))))
 
 entries-requires : tie.Need-entries-requires
 entries-requires c κs =
     let limited = c .before .before in
-    let pre = limited .before .before .before .before .before .before .pre in
-    (pre .0, (pre .1 .0 .0, pre .1 .1 .1, ready limited))
+    let counted = limited .before .before in
+    let pre = counted .before .before .before .before .pre in (
+      (pre .0 .0, pre .0 .1, pre .1 .0 .0),
+      (counted .count-terms .ensures .0, pre .1 .1 .1, ready counted (limited .before .limits .ensures .yes (limited .if1 .taken))),
+    )
+
+returns : tie.Need-returns
+returns c =
+    let tested = c .before in
+    let limited = tested .before .before in
+    let counted = limited .before .before in
+    let pre = counted .before .before .before .before .pre in
+    told
+    (met (counted .count-terms .ensures .0) (pre .1 .1 .0) (limited .before .limits .ensures .yes (limited .if1 .taken))
+    (tested .before .terms .ensures .yes (tested .if2 .taken)))
+    entries-of (c .entries .ensures)
+
+returns-2 : tie.Need-returns-2
+returns-2 c =
+    let counted = c .before .before .before .before in
+    refuted (λ m. c .before .terms .ensures .no (c .if2 .left) (terms-of (counted .count-terms .ensures .0) m))
 
 returns-3 : tie.Need-returns-3
 returns-3 c =
-    let tested = c .before .before in
-    let limited = tested .before in
-    let pre = limited .before .before .before .before .before .before .pre in
-    told (met (pre .1 .1 .0) (near limited) (tested .terms .ensures .yes (not-false _ (c .before .if2 .left)))) entries-of (c .entries .ensures)
+    let counted = c .before .before in
+    refuted (λ m. c .before .limits .ensures .no (c .if1 .left) (near-of (counted .count-terms .ensures .0) m))
 
 pub check-spec : {M : Type 1} → statement M
-check-spec =
-    tie.close
-    (tie.spec (λ c κs. search needs) limits-requires returns terms-requires returns-2 entries-requires returns-3)
+check-spec = tie.close (tie.spec (λ c κs. search needs) limits-requires terms-requires entries-requires returns returns-2 returns-3)

@@ -31,31 +31,30 @@ entry-true-requires : tie.Need-entry-true-requires Inv-loop μ-loop
 entry-true-requires c κs =
     let loop = c .before .before .before .before in
     let counted = loop .before .before in
-    let pre = counted .before .before .before .before .pre in
-    let t = counted .count-terms .ensures .0 in
+    let pre = counted .before .before .before .pre in
     let below = entry-below {i = loop .loop .e} (pre .0 .1) (omega arith) (c .entry-at .ensures) in
-    (rw (← t) at (pre .1 .2), pre .1 .1, omega (arith, below), omega (arith, below))
+    (pre .1 .2, pre .1 .1, omega (arith, pre .1 .0, below), omega (arith, pre .1 .0, below))
 
 returns : tie.Need-returns Inv-loop μ-loop
 returns c =
     let read = c .before .before in
     let loop = read .before .before .before .before in
-    let counted = loop .before .before in
-    let args = counted .before .before .before .before .args in
+    let start = loop .before .before .before .before .before in
+    let args = start .args in
     let test = entry-told (sheetOf (args .sheet .now)) (args .d) (loop .loop .e) (args .v .now)
-    (counted .count-terms .ensures .0) (read .entry-at .ensures) (c .before .entry-true .ensures) in
+    (start .pre .1 .0) (read .entry-at .ensures) (c .before .entry-true .ensures) in
     refuted (λ m. test .no (not-true _ (c .if2 .taken)) (m .entries (loop .loop .e) (omega arith) (read .before .if1 .taken)))
 
 loop-again : tie.Need-loop-again Inv-loop μ-loop
 loop-again c =
     let loop = c .before .before .before in
-    let counted = loop .before .before in
-    let args = counted .before .before .before .before .args in (
+    let start = loop .before .before .before .before .before in
+    let args = start .args in (
       omega arith,
       loop .loop .inv .1,
       entries-more (loop .loop .inv .2)
           (⊎-elim (λ w m. entry-told (sheetOf (args .sheet .now)) (args .d) (loop .loop .e) (args .v .now)
-          (counted .count-terms .ensures .0) (w .1 .ensures) (w .2 .ensures) .yes (not-false _ (w .3 .left)))
+          (start .pre .1 .0) (w .1 .ensures) (w .2 .ensures) .yes (not-false _ (w .3 .left)))
           (λ w m. absurd (true≢false (sym m ∙ w .left))) (c .if1 .came)),
     )
 
@@ -65,5 +64,5 @@ returns-2 c = let loop = c .before .loop in shown (record { entries = λ e l. lo
 pub entries-spec : {M : Type 1} → statement M
 entries-spec =
     tie.close
-    (tie.spec Inv-loop μ-loop (λ c κs. search needs) (λ c κs. search needs) loop-holds (λ c. search needs) (λ c. search needs)
+    (tie.spec Inv-loop μ-loop (λ c κs. search needs) loop-holds (λ c. search needs) (λ c. search needs)
     (λ c κs. search needs) entry-true-requires returns (λ c. search needs) (λ c. search needs) loop-again returns-2)

@@ -65,5 +65,6 @@ returns-3 c = free (c .before .before .before .args .t) (c .match .keys3) (c .be
 pub put-term-spec : {M : Type 1} → statement M
 put-term-spec =
     tie.close
-    (tie.spec (λ c. search needs) (λ c. search needs) (λ c. search needs) (λ c κs. search needs) (λ c. search needs) (λ c. search needs)
+    (tie.spec (λ c. search needs) (λ c. c .match .keys1) (λ c. search needs)
+    (λ c κs. (omega arith, c .before .before .before .before .before .before .pre .1)) (λ c. c .match .keys2) (λ c. search needs)
     (λ c. search needs) put-tie-requires-2 (λ c. search needs) returns (λ c. search needs) returns-2 returns-3)

@@ -1,14 +1,15 @@
 -- `passes::pass` meets its contract: the rows before the counter are passed (proofs/Passes.antt).
 -- Assumes nothing.
 use Prim.Native.Nat.{_-_, _≤_}
-use mathlib.Core.Path.{_≡_, refl, sym, _∙_}
+use mathlib.Core.Path.{_≡_, refl}
+use mathlib.Core.Logic.{⊎-elim}
 use lib.ListN.{length}
 use native.Mathlib.Omega.{arith}
 use borrow.Author.Needs.{needs}
 use Rattle.sheet.specs.Decode.{sheetOf}
 use Rattle.sheet.specs.Sheet.{countTerms}
 use Rattle.pairs.specs.Passing.{RowTied}
-use Rattle.passes.proofs.Passes.{Sofar, none-yet, sofar-table, more, ended, clash-after}
+use Rattle.passes.proofs.Passes.{Sofar, none-yet, sofar-table, more-new, more-still, ended, clash-after}
 use Rattle.passes.proofs.pass.Statement.{statement}
 use Rattle.passes.proofs.pass.Tie as tie
 
@@ -32,19 +33,20 @@ pass-row-requires c κs =
 
 returns : tie.Need-returns Inv-loop μ-loop
 returns c =
-    let told = c .before in
-    let called = told .before .before .before in
-    let turn = called .before .before .before in
-    clash-after _ (turn .loop .inv .3) (called .pass-row .ensures) (sym (told .is-clash .ensures) ∙ c .if1 .taken)
+    let called = c .before .before .before .before in
+    clash-after _ (called .before .before .before .loop .inv .3) (rw (c .enum-told .given .1) at (called .pass-row .ensures))
 
 loop-again : tie.Need-loop-again Inv-loop μ-loop
 loop-again c =
-    let went-on = c .before in
-    let told = went-on .before in
-    let called = told .before .before .before in
-    let turn = called .before .before .before in
-    let S = more _ (turn .loop .inv .3) (called .pass-row .ensures) (sym (told .is-clash .ensures) ∙ went-on .if1 .left) in
-    (omega arith, turn .loop .inv .1, omega arith, rw (c .is-new .ensures) S)
+    let called = c .before .before .before in
+    let turn = called .before .before .before in (
+      omega arith,
+      turn .loop .inv .1,
+      omega arith,
+      ⊎-elim (λ w. rw (w .2) (more-new _ (turn .loop .inv .3) (rw (w .1 .given .1) at (called .pass-row .ensures))))
+          (λ w. rw (w .2) (more-still _ (turn .loop .inv .3) (rw (w .1 .given .1) at (called .pass-row .ensures))))
+          (c .match .came),
+    )
 
 returns-2 : tie.Need-returns-2 Inv-loop μ-loop
 returns-2 c =
@@ -56,6 +58,6 @@ returns-2 c =
 pub pass-spec : {M : Type 1} → statement M
 pass-spec =
     tie.close
-    (tie.spec Inv-loop μ-loop (λ c κs. search needs) loop-holds (λ c. omega arith) pass-row-requires (λ c κs. search needs)
-    (λ c. omega arith) returns (λ c κs. search needs) (λ c. omega arith) (λ c. omega arith) loop-again (λ c κs. search needs)
-    (λ c. omega arith) returns-2)
+    (tie.spec Inv-loop μ-loop (λ c κs. omega arith) loop-holds (λ c. omega arith) pass-row-requires (λ c. search needs)
+    (λ c. omega arith) returns (λ c. search needs) (λ c. search needs) (λ c. omega arith) (λ c. omega arith) loop-again
+    (λ c κs. search needs) (λ c. omega arith) returns-2)

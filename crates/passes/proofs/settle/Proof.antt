@@ -1,62 +1,54 @@
--- `passes::settle` meets its contract: each pass that ties something lowers the sum of the cells, so the passes end.
+-- `passes::settle` meets its contract: each pass but the last ties something, so that the sum of all cells falls (proofs/Settles.antt).
 -- Assumes nothing.
-use Prim.Native.Nat.{_+_}
-use mathlib.Core.Path.{_≡_, refl, sym, _∙_}
-use mathlib.Core.Bool.{cond}
+use mathlib.Core.Path.{_≡_, refl}
 use lib.ListN.{length}
 use native.Mathlib.Omega.{arith}
 use borrow.Author.Needs.{needs}
-use Rattle.sheet.specs.Decode.{sheetOf}
 use Rattle.cells.specs.Cells.{cell}
+use Rattle.sheet.specs.Decode.{sheetOf}
 use Rattle.settled.specs.Settled.{points}
+use Rattle.steps.proofs.Steps.{stayed}
 use Rattle.pairs.specs.Passing.{total}
-use Rattle.passes.proofs.Settles.{Settling, begun, passed, goes-on, lower, clashes, ended}
+use Rattle.passes.proofs.Passes.{Passes}
+use Rattle.passes.proofs.Settles.{goes-on, lower, clashes, ended}
 use Rattle.passes.proofs.settle.Statement.{statement}
 use Rattle.passes.proofs.settle.Tie as tie
 
 abbrev Inv-loop : tie.InvT-loop
-Inv-loop sheet d₀ going₀ d going = (length d ≡ length d₀) × Settling (sheetOf sheet) d₀ d going
+Inv-loop sheet d₀ d = (length d ≡ length d₀) × Passes (sheetOf sheet) d₀ d
 
 abbrev μ-loop : tie.MeasureT-loop
-μ-loop sheet d₀ going₀ d going = cond going (total (points (sheetOf sheet)) (cell d) + 1) 0
+μ-loop sheet d₀ d = total (points (sheetOf sheet)) (cell d)
 
 loop-holds : tie.Need-loop-holds Inv-loop μ-loop
-loop-holds c = (refl, begun _ (c .before .before .pre .1 .1))
+loop-holds c = (refl, stayed (c .before .before .pre .1 .1) tt)
 
 pass-requires : tie.Need-pass-requires Inv-loop μ-loop
 pass-requires c κs =
-    let turn = c .before .before in
-    let start = turn .before .before .before in
-    (start .pre .0, (omega arith, passed _ (turn .loop .inv .1) .went refl .table))
+    let loop = c .before .loop in
+    let pre = c .before .before .before .before .pre in
+    (pre .0, (omega arith, loop .inv .1 .went refl .table))
 
 returns : tie.Need-returns Inv-loop μ-loop
 returns c =
-    let told = c .before in
-    let called = told .before .before .before in
-    let turn = called .before .before .before in
-    clashes _ (turn .loop .inv .1) (called .pass .ensures) (sym (told .is-clash .ensures) ∙ c .if1 .taken)
+    let called = c .before .before .before .before in
+    clashes _ (called .before .before .loop .inv .1) (rw (c .enum-told .given .1) at (called .pass .ensures))
 
 loop-less : tie.Need-loop-less Inv-loop μ-loop
-loop-less c =
-    let went-on = c .before in
-    let told = went-on .before in
-    let called = told .before .before .before in
-    let tested = called .before .before in
-    rw (c .is-new .ensures) (lower _ (called .pass .ensures) (sym (told .is-clash .ensures) ∙ went-on .if1 .left) (tested .loop-test .taken))
+loop-less c = lower _ (rw (c .enum-told2 .given .1) at (c .before .before .before .before .pass .ensures))
 
 loop-again : tie.Need-loop-again Inv-loop μ-loop
 loop-again c =
-    let went-on = c .before in
-    let told = went-on .before in
-    let called = told .before .before .before in
-    let turn = called .before .before .before in
-    (omega arith, rw (c .is-new .ensures) (goes-on _ (turn .loop .inv .1) (called .pass .ensures) (sym (told .is-clash .ensures) ∙ went-on .if1 .left)))
+    let called = c .before .before .before .before in
+    (omega arith, goes-on _ (called .before .before .loop .inv .1) (rw (c .enum-told2 .given .1) at (called .pass .ensures)))
 
 returns-2 : tie.Need-returns-2 Inv-loop μ-loop
-returns-2 c = ended _ (c .before .loop .inv .1) (c .loop-test .left)
+returns-2 c =
+    let called = c .before .before .before .before in
+    ended _ (called .before .before .loop .inv .1) (rw (c .enum-told3 .given .1) at (called .pass .ensures))
 
 pub settle-spec : {M : Type 1} → statement M
 settle-spec =
     tie.close
-    (tie.spec Inv-loop μ-loop loop-holds pass-requires (λ c κs. search needs) (λ c. search needs) returns (λ c κs. search needs)
-    loop-less loop-again (λ c. search needs) returns-2)
+    (tie.spec Inv-loop μ-loop loop-holds pass-requires (λ c. search needs) (λ c. omega arith) returns (λ c. search needs) loop-less
+    loop-again (λ c. search needs) (λ c. omega arith) returns-2)

@@ -7,20 +7,18 @@ use Rattle.rules.proofs.Values.{level-low, value-related}
 use Rattle.rules.proofs.entry_true.Statement.{statement}
 use Rattle.rules.proofs.entry_true.Tie as tie
 
-left-requires : tie.Need-left-requires
-left-requires c κs = let pre = c .before .before .before .before .pre in (level-low _ (pre .0) (pre .2), pre .1)
-
-right-requires : tie.Need-right-requires
-right-requires c κs = let pre = c .before .before .before .before .before .before .pre in (level-low _ (pre .0) (pre .3), pre .1)
+related-requires : tie.Need-related-requires
+related-requires c κs =
+    let pre = c .before .before .before .before .before .pre in
+    (level-low _ (pre .0) (pre .2), level-low _ (pre .0) (pre .3), pre .1)
 
 returns : tie.Need-returns
 returns c =
-    let called = c .before in
-    let args = called .before .before .before .before .before .before .before .args in
-    value-related _ _ (getD (args .v .now) (args .t) 0) _ _ (relationSays (args .e .relation)) (called .before .before .left .ensures) (called .right .ensures) (c .related .ensures)
+    let args = c .before .before .before .before .before .before .args in
+    value-related _ _ (getD (args .v .now) (args .t) 0) _ _ (relationSays (args .e .relation)) (c .related .ensures)
 
 pub entry-true-spec : {M : Type 1} → statement M
 entry-true-spec =
     tie.close
-    (tie.spec (λ c. search needs) (λ c. search needs) (λ c. search needs) (λ c. search needs) left-requires (λ c. search needs)
-    (λ c. search needs) right-requires (λ c κs. search needs) returns)
+    (tie.spec (λ c. search needs) (λ c. search needs) (λ c. search needs) (λ c. search needs) (λ c. search needs) (λ c. search needs)
+    related-requires returns)

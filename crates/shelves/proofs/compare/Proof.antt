@@ -1,52 +1,36 @@
--- `shelves::compare` meets its contract: term i agrees with the terms before the counter.
+-- `shelves::compare` meets its contract: what it has found is so of the terms before the counter.
 -- Assumes nothing.
-use Prim.Native.Nat.{ℕ, _-_, _≤_, _<_}
-use mathlib.Core.Path.{_≡_, sym, _∙_}
-use mathlib.Core.Logic.{⊎-elim}
-use lib.ListN.{getD}
+use Prim.Native.Nat.{_-_, _≤_}
+use mathlib.Core.Path.{_≡_}
 use native.Mathlib.Omega.{arith}
-use borrow.Author.Count.{below-more}
-use borrow.Author.Needs.{needs}
-use borrow.Author.Tests.{not-true, not-false}
-use Rattle.shelves.specs.Rows.{Agree}
-use Rattle.shelves.proofs.Rows.{row-broken, row-whole}
+use Rattle.meaning.specs.Decides.{Decides}
+use Rattle.shelves.specs.Rows.{Alike}
+use Rattle.shelves.proofs.Rows.{alike-none, alike-more}
 use Rattle.shelves.proofs.compare.Statement.{statement}
 use Rattle.shelves.proofs.compare.Tie as tie
 
 abbrev Inv-loop : tie.InvT-loop
-Inv-loop one two v key i at j₀ j = (j ≤ i .0) × ((k : ℕ) → k < j → getD one k 0 ≡ getD one (i .0) 0 → Agree two v (i .0) k)
+Inv-loop keys v first second level k alike₀ j₀ alike j = (j ≤ k) × Decides (Alike keys v first second level j) alike
 
 abbrev μ-loop : tie.MeasureT-loop
-μ-loop one two v key i at j₀ j = i .0 - j
+μ-loop keys v first second level k alike₀ j₀ alike j = k - j
 
 loop-holds : tie.Need-loop-holds Inv-loop μ-loop
-loop-holds c = (omega arith, λ k l. absurd (omega arith))
-
-agree-requires : tie.Need-agree-requires Inv-loop μ-loop
-agree-requires c κs = search needs
-
-returns : tie.Need-returns Inv-loop μ-loop
-returns c =
-    let same = c .before .before in
-    let start = same .before .before .before .before .before .before in
-    row-broken (omega arith) (omega arith) (same .if1 .taken ∙ start .pre .2) (c .before .agree .ensures .no (not-true _ (c .if2 .taken)))
+loop-holds c = (omega arith, alike-none)
 
 loop-again : tie.Need-loop-again Inv-loop μ-loop
 loop-again c =
-    let loop = c .before .before .before in
-    let start = loop .before .before .before in (
-      omega arith,
-      below-more _ _ (loop .loop .inv .1)
-          (⊎-elim (λ w e. w .1 .ensures .yes (not-false _ (w .2 .left))) (λ w e. absurd (w .left (e ∙ sym (start .pre .2)))) (c .if1 .came)),
-    )
+    let loop = c .before .before .before .before .loop in
+    (omega arith, alike-more (loop .alike) (loop .inv .1))
 
-returns-2 : tie.Need-returns-2 Inv-loop μ-loop
-returns-2 c =
-    let loop = c .before .loop in
-    row-whole (λ j l. loop .inv .1 j (omega arith))
+returns : tie.Need-returns Inv-loop μ-loop
+returns c =
+    let loop = c .before in
+    let e : loop .loop .j ≡ loop .before .args .k = omega arith in
+    rw e at (loop .loop .inv .1)
 
 pub compare-spec : {M : Type 1} → statement M
 compare-spec =
     tie.close
-    (tie.spec Inv-loop μ-loop (λ c. search needs) loop-holds (λ c. search needs) (λ c. search needs) (λ c. search needs) agree-requires
-    returns (λ c. search needs) (λ c. search needs) loop-again returns-2)
+    (tie.spec Inv-loop μ-loop loop-holds (λ c. omega arith) (λ c. omega arith) (λ c. omega arith) (λ c. omega arith) (λ c. omega arith)
+    (λ c. omega arith) (λ c. omega arith) (λ c. omega arith) (λ c. omega arith) loop-again returns)

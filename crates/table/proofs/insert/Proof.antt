@@ -18,7 +18,7 @@ sum-requires c κs =
 
 returns-2 : tie.Need-returns-2
 returns-2 c =
-    let added = c .before .before .before in
+    let added = c .before .before in
     let read = added .before in
     let start = read .before .before .before .before .before .before .before .before in
     inserted-not _ _ _ _ _ (asked (start .pre)) (rw (added .sum .ensures .0, read .gap-at2 .ensures) at (c .if2 .taken))
@@ -27,7 +27,7 @@ returns-3 : tie.Need-returns-3
 returns-3 c =
     let called = c .before .before in
     let tested = called .before .before in
-    let added = tested .before .before .before in
+    let added = tested .before .before in
     let read = added .before in
     let start = read .before .before .before .before .before .before .before .before in
     inserted _ _ _ _ _ (asked (start .pre)) _ (rw (added .sum .ensures .0, read .gap-at2 .ensures) at (tested .if2 .left)) (called .relax-rows .ensures)

@@ -45,14 +45,14 @@ loop-holds c = (omega arith, rw sub-zero)
 
 returns : tie.Need-returns Inv-loop μ-loop
 returns c =
-    let called = c .before .before .before in
+    let called = c .before .before in
     let loop = called .before .before .loop in
     let d = cell (called .before .before .before .before .args .d .now) in
     (sym (loop .inv .1 ∙ found d _ _ _ (omega arith) (called .tied .ensures) (c .if1 .taken)), omega arith)
 
 loop-again : tie.Need-loop-again Inv-loop μ-loop
 loop-again c =
-    let called = c .before .before .before in
+    let called = c .before .before in
     let loop = called .before .before .loop in
     let start = called .before .before .before .before in
     let d = cell (start .args .d .now) in

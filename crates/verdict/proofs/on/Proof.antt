@@ -26,8 +26,8 @@ returns c =
     let wf = start .pre .0 .1 in
     refused _ _ wf (started .before .count-terms .ensures .0) (started .start .ensures) (with-terms _ _ wf (terms .put-terms .ensures)) (not-true _ (c .if1 .taken))
 
-enter-requires : tie.Need-enter-requires
-enter-requires c κs =
+finish-requires : tie.Need-finish-requires
+finish-requires c κs =
     let going = c .before in
     let terms = going .before .before .before in
     let start = terms .before .before .before .before .before .before .before .before .before .before in
@@ -42,11 +42,11 @@ returns-2 c =
     let start = started .before .before .before .before .before .before in
     let wf = start .pre .0 .1 in
     let A = with-terms _ _ wf (terms .put-terms .ensures) in
-    let B = with-entered _ _ wf (not-false _ (going .if1 .left)) A (entered .enter .ensures) in
+    let B = with-entered _ _ wf (not-false _ (going .if1 .left)) A (entered .finish .ensures) in
     rw (c .told .ensures) (told _ _ wf (started .before .count-terms .ensures .0) (started .start .ensures) B)
 
 pub on-spec : {M : Type 1} → statement M
 on-spec =
     tie.close
-    (tie.spec (λ c κs. search needs) (λ c. search needs) start-requires put-terms-requires (λ c. omega arith) returns enter-requires
+    (tie.spec (λ c κs. search needs) (λ c. search needs) start-requires put-terms-requires (λ c. omega arith) returns finish-requires
     (λ c κs. search needs) (λ c. omega arith) returns-2)

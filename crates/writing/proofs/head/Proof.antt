@@ -1,5 +1,6 @@
--- `writing::head` meets its contract: five numbers, one behind the other.
+-- `writing::head` meets its contract: the number's digits are the head.
 -- Assumes nothing.
+use native.Mathlib.Omega.{arith}
 use borrow.Author.Needs.{needs}
 use Rattle.writing.proofs.Heads.{headed}
 use Rattle.writing.proofs.head.Statement.{statement}
@@ -7,15 +8,12 @@ use Rattle.writing.proofs.head.Tie as tie
 
 returns : tie.Need-returns
 returns c =
-    let c5 = c .before .before in
-    let c4 = c5 .before .before .before .before in
-    let c3 = c4 .before .before .before .before in
-    let c2 = c3 .before .before .before .before in
-    let c1 = c2 .before .before .before .before in
-    headed (c1 .write .ensures) (c2 .write2 .ensures) (c3 .write3 .ensures) (c4 .write4 .ensures) (c5 .write5 .ensures)
+    let start = c .before .before .before .before .before in
+    let wrote = c .before .before .write .ensures in
+    headed (λ k. c .slice-known2 .given k .fits) (omega arith) (start .pre .2) (omega (arith, wrote .0)) (wrote .1)
 
 pub head-spec : {M : Type 1} → statement M
 head-spec =
     tie.close
-    (tie.spec (λ c κs. search needs) (λ c κs. search needs) (λ c κs. search needs) (λ c κs. search needs) (λ c κs. search needs)
-    (λ c. search needs) returns)
+    (tie.spec (λ c. search needs) (λ c. search needs) (λ c. search needs) (λ c. search needs) (λ c. search needs) (λ c. search needs)
+    (λ c. search needs) (λ c κs. search needs) (λ c. search needs) returns)
