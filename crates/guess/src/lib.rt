@@ -55,7 +55,7 @@ fn take(m: &[usize; MEMORY], v: &mut [u64; PLACES], n: usize)
 {
     let mut i = 0;
     while i < n {
-        v[i] = (m[i] % lowering::TOP) as u64;
+        v[i] = (m[i] % notes::TOP) as u64;
         i += 1;
     }
 }

@@ -3,18 +3,16 @@
 // It rests on the sheet's readers.
 // It promises which number each bound and each application is, and that what is noted stays within the memory.
 ghost use mathlib.Core.Path.{_≡_};
-ghost use Prim.Native.Nat.{_≤_, _<_};
+ghost use Prim.Native.Nat.{_+_, _*_, _%_, _≤_, _<_};
 ghost use lib.ListN.{length};
 ghost use Rattle.sheet.specs.Decode.{Sized, sheetOf};
 ghost use Rattle.sheet.specs.Limits.{maxTerms};
 ghost use Rattle.sheet.specs.Sheet.{WellFormed, countEntries};
 ghost use Rattle.notes.specs.Limits.{memory};
-ghost use Rattle.notes.specs.Noted.{boundOf, applicationOf, termApplication};
+ghost use Rattle.notes.specs.Noted.{boundOf, applicationOf};
 ghost use Rattle.notes.specs.Search.{Worked};
-use sheet::Entry;
 use sheet::EntryNumber;
-use sheet::Relation;
-use sheet::Term;
+use sheet::Fields;
 use sheet::TermNumber;
 
 // Places for points: more than there are, and a power of two, so that what is left of any number below it is a place.
@@ -50,6 +48,15 @@ pub const D: usize = 63 * SLACKS;
 // A bound's weight without slack is this much more than its c, biased, in parts of D.
 pub const LOOSE: usize = SLACKS - 1;
 
+// Half of what c can be: added, it leaves no c below 0.
+pub const BIAS: usize = 32768;
+
+// Over every level.
+pub const TOP: usize = 17592186044416;
+
+// A weight that lets point a be as high as point b: that of c = 0, biased, without slack.
+pub const EVEN: usize = BIAS * D + LOOSE;
+
 // A bound as one number: point a, point b, and the weight by which a may be over b.
 pub const POINT: usize = 256;
 
@@ -76,14 +83,22 @@ fn put(m: &mut [usize; MEMORY], at: usize, bound: usize) -> usize
     at + 1
 }
 
-// Notes that a is b and c, biased: it is at most that, and that is at most it.
-pub fn tie(m: &mut [usize; MEMORY], at: usize, a: usize, b: usize, c: usize) -> usize
-    requires { ⌜ (at ≤ memory) × (a < 256) × (b < 256) × (c ≤ 65536) ⌝ }
+// Notes that a is b and c: it is at most that, and that is at most it.
+pub fn tie(m: &mut [usize; MEMORY], at: usize, a: usize, b: usize, c: u16) -> usize
+    requires { ⌜ (at ≤ memory) × (a < 256) × (b < 256) ⌝ }
     ensures answer { λ r. ⌜ (at ≤ r) × (r ≤ memory) ⌝ }
     ensures worked { λ _. ⌜ Worked (now (m .entry)) (now (m .exit)) ⌝ }
 {
-    let next = put(m, at, bound(a, b, c, 0));
-    put(m, next, bound(b, a, 65536 - c, 0))
+    let over = biased(c);
+    let next = put(m, at, bound(a, b, over, 0));
+    put(m, next, bound(b, a, 2 * BIAS - over, 0))
+}
+
+// Two's complement, as a record has it, with the bias.
+fn biased(c: u16) -> usize
+    ensures { λ r. ⌜ (r ≡ (c + 32768) % 65536) × (r < 65536) ⌝ }
+{
+    (c as usize + BIAS) % (2 * BIAS)
 }
 
 // The bounds of the terms, from the first place on, and the applications; answers the place behind the bounds. What is no application is
@@ -98,10 +113,10 @@ pub fn note_terms(m: &mut [usize; MEMORY], sheet: &[u8]) -> usize
     let mut applied = APPLICATIONS;
     let mut i = 0;
     while i < t {
-        let term = TermNumber(i as u8);
-        let says = reading::term_at(sheet, term);
-        at = note_term(m, at, term, t, says);
-        let application = application_of(term, says);
+        let own = TermNumber(i as u8);
+        let record = reading::fields_at(sheet, 6 + 6 * i);
+        at = note_term(m, at, own, t, record);
+        let application = application_of(own, record);
         m[applied] = application;
         applied += application / ONE % 2;
         i += 1;
@@ -109,17 +124,18 @@ pub fn note_terms(m: &mut [usize; MEMORY], sheet: &[u8]) -> usize
     at
 }
 
-// A number is tied to the zero level z, a shift to its term.
-fn note_term(m: &mut [usize; MEMORY], at: usize, i: TermNumber, z: usize, t: Term) -> usize
+// A number, of kind 1, is tied to the zero level z, and a shift, of kind 2, to its term.
+fn note_term(m: &mut [usize; MEMORY], at: usize, i: TermNumber, z: usize, f: Fields) -> usize
     requires { ⌜ (at ≤ memory) × (z ≤ maxTerms) ⌝ }
     ensures answer { λ r. ⌜ r ≤ memory ⌝ }
     ensures worked { λ _. ⌜ Worked (now (m .entry)) (now (m .exit)) ⌝ }
 {
-    match t {
-        Term::Number(c) => tie(m, at, i.0 as usize, z, c.0 as usize),
-        Term::Shift(a, c) => tie(m, at, i.0 as usize, a.0 as usize, c.0 as usize),
-        _ => at,
+    let kind = f.kind;
+    if (kind == 0) | (2 < kind) {
+        return at;
     }
+    let to = if kind == 1 { z } else { f.a as usize };
+    tie(m, at, i.0 as usize, to, f.c)
 }
 
 // The bounds of the set's entries, from a place on; answers the place behind them.
@@ -129,55 +145,49 @@ pub fn note_entries(m: &mut [usize; MEMORY], sheet: &[u8], set: &[bool], before:
     ensures answer { λ r. ⌜ r ≤ memory ⌝ }
     ensures worked { λ _. ⌜ Worked (now (m .entry)) (now (m .exit)) ⌝ }
 {
+    let first = 6 + 6 * reading::count_terms(sheet);
     let l = reading::count_entries(sheet);
     let mut at = before;
     let mut e = 0;
     while e < l {
-        if set[e] {
-            let entry = EntryNumber(e as u8);
-            at = note_entry(m, at, entry, reading::entry_at(sheet, entry));
-        }
+        let own = EntryNumber(e as u8);
+        at = note_entry(m, at, own, set[e], reading::fields_at(sheet, first + 6 * e));
         e += 1;
     }
     at
 }
 
-// Each entry has a slack of its own, so that most of what isn't tied comes apart; it is even for ≤, and odd for <. Sums of slacks can still
-// be equal: then a guess is missed.
-fn note_entry(m: &mut [usize; MEMORY], at: usize, e: EntryNumber, entry: Entry) -> usize
+// An entry of kind 0 is a tie, one of kind 1, a ≠, no bound, as one that isn't in the set; 2 is ≤, and 3 is <. Each has a slack of its own, so that most of what isn't
+// tied comes apart; it is even for ≤, and odd for <. Sums of slacks can still be equal: then a guess is missed.
+fn note_entry(m: &mut [usize; MEMORY], at: usize, e: EntryNumber, marked: bool, f: Fields) -> usize
     requires { ⌜ at ≤ memory ⌝ }
     ensures answer { λ r. ⌜ r ≤ memory ⌝ }
     ensures worked { λ _. ⌜ Worked (now (m .entry)) (now (m .exit)) ⌝ }
 {
-    let a = entry.a.0 as usize;
-    let b = entry.b.0 as usize;
-    let c = entry.c.0 as usize;
-    let slack = 2 + 2 * ((e.0 as usize) * 113 % 498);
-    let relation = entry.relation;
-    match relation {
-        Relation::Equal => tie(m, at, a, b, c),
-        Relation::Unequal => at,
-        Relation::AtMost => put(m, at, bound(a, b, c, slack)),
-        Relation::Less => put(m, at, bound(a, b, c, slack + 1)),
+    let kind = f.kind;
+    if !marked | (kind == 1) {
+        return at;
     }
+    let a = f.a as usize;
+    let b = f.b as usize;
+    if kind == 0 {
+        return tie(m, at, a, b, f.c);
+    }
+    let slack = 2 + 2 * ((e.0 as usize) * 113 % 498) + (kind as usize) % 2;
+    put(m, at, bound(a, b, biased(f.c), slack))
 }
 
-// An application is one number: its own, its two arguments, and its kind and symbol; 0 is none.
-fn application_of(i: TermNumber, t: Term) -> usize
-    ensures { λ r. ⌜ r ≡ termApplication (i .0) t ⌝ }
+// An application, of kind 3 or 4, is one number: its own, its two arguments, and its kind and symbol; 0 is none.
+fn application_of(i: TermNumber, f: Fields) -> usize
+    ensures none { λ r. ⌜ (f .kind < 3 → r ≡ 0) ⌝ }
+    ensures one { λ r. ⌜ (3 ≤ f .kind → r ≡ applicationOf (i .0) (f .a) (f .b) (256 * (f .kind % 2) + f .symbol)) ⌝ }
 {
-    match t {
-        Term::Apply(f, a) => application(i, a, TermNumber(0), f.0 as usize),
-        Term::Apply2(f, a, b) => application(i, a, b, 256 + f.0 as usize),
-        _ => 0,
+    let kind = f.kind;
+    if kind < 3 {
+        return 0;
     }
-}
-
-fn application(i: TermNumber, a: TermNumber, b: TermNumber, key: usize) -> usize
-    requires { ⌜ key < 512 ⌝ }
-    ensures { λ r. ⌜ r ≡ applicationOf (i .0) (a .0) (b .0) key ⌝ }
-{
-    ONE + i.0 as usize + FIRST * a.0 as usize + SECOND * b.0 as usize + KEY * key
+    let key = 256 * ((kind as usize) % 2) + f.symbol as usize;
+    ONE + i.0 as usize + FIRST * f.a as usize + SECOND * f.b as usize + KEY * key
 }
 
 // The fields of an application: its arguments, its kind and symbol, and a mark that it is one.

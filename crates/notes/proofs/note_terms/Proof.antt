@@ -3,8 +3,10 @@
 use Prim.Native.Nat.{_+_, _-_, _≤_}
 use mathlib.Core.Path.{_≡_, _∙_}
 use lib.ListN.{length, length-set}
-use Rattle.notes.specs.Limits.{memory}
 use native.Mathlib.Omega.{arith}
+use denote.Ref.{now}
+use Rattle.sheet.proofs.Decode.{terms-stated}
+use Rattle.notes.specs.Limits.{memory}
 use borrow.Author.Needs.{needs}
 use Rattle.notes.proofs.note_terms.Statement.{statement}
 use Rattle.notes.proofs.note_terms.Tie as tie
@@ -14,6 +16,9 @@ Inv-loop m₀ sheet t at₀ applied₀ i₀ m at applied i = (length m ≡ lengt
 
 abbrev μ-loop : tie.MeasureT-loop
 μ-loop m₀ sheet t at₀ applied₀ i₀ m at applied i = t - i
+
+fields-at-requires : tie.Need-fields-at-requires Inv-loop μ-loop
+fields-at-requires c κs = omega (arith, terms-stated (now (c .before .before .before .before .args .sheet)))
 
 loop-again : tie.Need-loop-again Inv-loop μ-loop
 loop-again c =
@@ -28,4 +33,4 @@ loop-again c =
 pub note-terms-spec : {M : Type 1} → statement M
 note-terms-spec =
     tie.close
-    (tie.spec Inv-loop μ-loop (λ c κs. search needs) (λ c. search needs) (λ c. search needs) (λ c κs. search needs) (λ c κs. search needs) (λ c κs. search needs) (λ c. search needs) (λ c. search needs) (λ c. search needs) (λ c. search needs) (λ c. search needs) loop-again (λ c. search needs))
+    (tie.spec Inv-loop μ-loop (λ c κs. search needs) (λ c. search needs) (λ c. search needs) (λ c. search needs) (λ c. search needs) fields-at-requires (λ c κs. search needs) (λ c κs. search needs) (λ c. search needs) (λ c. search needs) (λ c. search needs) (λ c. search needs) (λ c. search needs) loop-again (λ c. search needs))

@@ -1,4 +1,4 @@
--- `lowering::free` meets its contract.
+-- `circles::free` meets its contract.
 -- Assumes nothing.
 use Prim.Native.Nat.{_<_}
 use mathlib.Core.Path.{_≡_}
@@ -6,8 +6,8 @@ use lib.ListN.{length}
 use Rattle.notes.specs.Limits.{places}
 use native.Mathlib.Omega.{arith}
 use borrow.Author.Needs.{needs}
-use Rattle.lowering.proofs.free.Statement.{statement}
-use Rattle.lowering.proofs.free.Tie as tie
+use Rattle.circles.proofs.free.Statement.{statement}
+use Rattle.circles.proofs.free.Tie as tie
 
 abbrev Inv-loop : tie.InvT-loop
 Inv-loop m₀ x y₀ left₀ m y left = (length m ≡ length m₀) × (y < places)

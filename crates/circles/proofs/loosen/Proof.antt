@@ -1,4 +1,4 @@
--- `lowering::loosen` meets its contract.
+-- `circles::loosen` meets its contract.
 -- Assumes nothing.
 use Prim.Native.Nat.{_-_, _≤_}
 use mathlib.Core.Path.{_≡_, _∙_}
@@ -6,8 +6,8 @@ use mathlib.Core.Logic.{⊎-elim}
 use lib.ListN.{length}
 use native.Mathlib.Omega.{arith}
 use borrow.Author.Needs.{needs}
-use Rattle.lowering.proofs.loosen.Statement.{statement}
-use Rattle.lowering.proofs.loosen.Tie as tie
+use Rattle.circles.proofs.loosen.Statement.{statement}
+use Rattle.circles.proofs.loosen.Tie as tie
 
 abbrev Inv-loop : tie.InvT-loop
 Inv-loop m₀ n base i₀ m i = (length m ≡ length m₀) × (i ≤ n)

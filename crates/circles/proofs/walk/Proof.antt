@@ -1,4 +1,4 @@
--- `lowering::walk` meets its contract: each step is from a point to a point.
+-- `circles::walk` meets its contract: each step is from a point to a point.
 -- Assumes nothing.
 use Prim.Native.Nat.{_<_}
 use mathlib.Core.Path.{_≡_}
@@ -6,8 +6,8 @@ use lib.ListN.{length}
 use Rattle.notes.specs.Limits.{places}
 use native.Mathlib.Omega.{arith}
 use borrow.Author.Needs.{needs}
-use Rattle.lowering.proofs.walk.Statement.{statement}
-use Rattle.lowering.proofs.walk.Tie as tie
+use Rattle.circles.proofs.walk.Statement.{statement}
+use Rattle.circles.proofs.walk.Tie as tie
 
 abbrev Inv-loop : tie.InvT-loop
 Inv-loop m₀ i base x₀ left₀ m x left = (length m ≡ length m₀) × (x < places)

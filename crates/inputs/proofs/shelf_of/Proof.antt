@@ -1,10 +1,10 @@
--- `search::shelf_of` meets its contract: each place is that of a shelf.
+-- `inputs::shelf_of` meets its contract: each place is that of a shelf.
 -- Assumes nothing.
 use Prim.Native.Nat.{_<_}
 use Rattle.notes.specs.Limits.{places}
 use borrow.Author.Needs.{needs}
-use Rattle.search.proofs.shelf_of.Statement.{statement}
-use Rattle.search.proofs.shelf_of.Tie as tie
+use Rattle.inputs.proofs.shelf_of.Statement.{statement}
+use Rattle.inputs.proofs.shelf_of.Tie as tie
 
 abbrev Inv-loop : tie.InvT-loop
 Inv-loop m input base s₀ left₀ s left = s < places

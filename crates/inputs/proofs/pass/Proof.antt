@@ -1,12 +1,12 @@
--- `search::pass` meets its contract.
+-- `inputs::pass` meets its contract.
 -- Assumes nothing.
 use Prim.Native.Nat.{_-_, _≤_}
 use mathlib.Core.Path.{_≡_}
 use lib.ListN.{length}
 use Rattle.notes.specs.Limits.{memory, mostApplications}
 use borrow.Author.Needs.{needs}
-use Rattle.search.proofs.pass.Statement.{statement}
-use Rattle.search.proofs.pass.Tie as tie
+use Rattle.inputs.proofs.pass.Statement.{statement}
+use Rattle.inputs.proofs.pass.Tie as tie
 
 abbrev Inv-loop : tie.InvT-loop
 Inv-loop m₀ before base end₀ k₀ m end k = (length m ≡ length m₀) × (end ≤ memory) × (k ≤ mostApplications)

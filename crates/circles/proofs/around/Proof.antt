@@ -1,4 +1,4 @@
--- `lowering::around` meets its contract: what the way from y on comes to, the whole way round does.
+-- `circles::around` meets its contract: what the way from y on comes to, the whole way round does.
 -- Assumes nothing.
 use Prim.Native.Nat.{ℕ, zero, suc, _+_, _*_, _-_, _^_, _≤_, _<_}
 use mathlib.Core.Bool.{Bool, true, false, cond, true≢false}
@@ -8,10 +8,10 @@ use lib.Dec.{eqb}
 use native.Mathlib.Omega.{arith}
 use borrow.Author.Tests.{eq-eqb, ne-eqb}
 use Rattle.notes.specs.Limits.{places}
-use Rattle.lowering.specs.Circle.{nextOf, stepOf, evenStep, isTie}
+use Rattle.circles.specs.Circle.{nextOf, stepOf, evenStep, isTie}
 use borrow.Author.Needs.{needs}
-use Rattle.lowering.proofs.around.Statement.{statement}
-use Rattle.lowering.proofs.around.Tie as tie
+use Rattle.circles.proofs.around.Statement.{statement}
+use Rattle.circles.proofs.around.Tie as tie
 
 -- more than a step can come to
 abbrev bigStep : ℕ

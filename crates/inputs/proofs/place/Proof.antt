@@ -1,11 +1,11 @@
--- `search::place` meets its contract.
+-- `inputs::place` meets its contract.
 -- Assumes nothing.
 use Prim.Native.Nat.{_+_}
 use mathlib.Core.Path.{_∙_}
 use lib.ListN.{length-set}
 use borrow.Author.Needs.{needs}
-use Rattle.search.proofs.place.Statement.{statement}
-use Rattle.search.proofs.place.Tie as tie
+use Rattle.inputs.proofs.place.Statement.{statement}
+use Rattle.inputs.proofs.place.Tie as tie
 
 returns-2 : tie.Need-returns-2
 returns-2 c =
