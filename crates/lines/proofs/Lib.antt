@@ -1,0 +1,4 @@
+mod Step
+pub mod Told
+mod Onward
+pub mod Decides

@@ -1,0 +1,3 @@
+pub mod Slips
+pub mod Says
+pub mod Outcome

@@ -1,0 +1,3 @@
+pub mod Told
+mod Answered
+pub mod Kept

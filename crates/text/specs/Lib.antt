@@ -1,0 +1,5 @@
+pub mod Text
+pub mod Print
+pub mod Typed
+pub mod Machine
+pub mod Reach
