@@ -22,7 +22,10 @@ returns-2 : tie.Need-returns-2 Inv-loop μ-loop
 returns-2 c = (first-least _ _ _ _ (c .before .before .digit-at .ensures) (omega arith) (omega arith), tt)
 
 add-e : tie.Need-add-e Inv-loop μ-loop
-add-e c = omega (arith, digit-there (c .before .before .before .before .args .s .now) (c .before .before .digit-at .ensures) (omega arith))
+add-e c =
+    let first = c .before .before in
+    let start = first .before .before in
+    omega (arith, digit-there (start .args .s .now) (first .digit-at .ensures) (omega arith))
 
 loop-holds : tie.Need-loop-holds Inv-loop μ-loop
 loop-holds c = first-digit _ _ _ _ (c .before .before .before .digit-at .ensures) (omega arith) (omega arith) (omega arith) (c .digit-at2 .ensures)
@@ -34,10 +37,16 @@ returns-4 : tie.Need-returns-4 Inv-loop μ-loop
 returns-4 c = (out-of-range _ _ _ _ (c .before .before .before .loop .inv) (omega arith) (λ z. omega arith) refl (omega arith), tt)
 
 add-e-2 : tie.Need-add-e-2 Inv-loop μ-loop
-add-e-2 c = omega (arith, digit-there (c .before .before .before .before .before .before .before .before .before .args .s .now) (c .before .before .before .loop .inv .digit) (omega arith))
+add-e-2 c =
+    let loop = c .before .before .before in
+    let start = loop .before .before .before .before .before .before in
+    omega (arith, digit-there (start .args .s .now) (loop .loop .inv .digit) (omega arith))
 
 loop-less : tie.Need-loop-less Inv-loop μ-loop
-loop-less c = omega (arith, digit-there (c .before .before .before .before .before .before .before .before .before .before .args .s .now) (c .before .before .before .before .loop .inv .digit) (omega arith))
+loop-less c =
+    let loop = c .before .before .before .before in
+    let start = loop .before .before .before .before .before .before in
+    omega (arith, digit-there (start .args .s .now) (loop .loop .inv .digit) (omega arith))
 
 loop-again : tie.Need-loop-again Inv-loop μ-loop
 loop-again c =

@@ -63,61 +63,156 @@ abbrev arguments-calls : ℕ → arguments-lts.Claims
 arguments-calls t = (byte-at-reads.Asked, byte-at-reads.Learnt, term-below t, term.Post, closed-reads.Asked, closed-reads.Learnt)
 
 abbrev term-calls : ℕ → term-lts.Claims
-term-calls t = (byte-at-reads.Asked, byte-at-reads.Learnt, number-at-reads.Asked, number-at-reads.Learnt, arguments-below t, arguments.Post, shift-reads.Asked, shift-reads.Learnt, value-reads.Asked, value-reads.Learnt)
+term-calls t = (
+  byte-at-reads.Asked,
+  byte-at-reads.Learnt,
+  number-at-reads.Asked,
+  number-at-reads.Learnt,
+  arguments-below t,
+  arguments.Post,
+  shift-reads.Asked,
+  shift-reads.Learnt,
+  value-reads.Asked,
+  value-reads.Learnt,
+)
 
 arguments-returns : (t : ℕ) → arguments-lts.Need-returns (arguments-calls t) (arguments-at t) arguments.Post
 arguments-returns t c = answers-as (no-bracket _ _ _ _ (c .before .byte-at .ensures) _ (c .if1 .taken)) (refused-answers _ (c .before .before .before .pre .1 .0))
 
 arguments-returns-2 : (t : ℕ) → arguments-lts.Need-returns-2 (arguments-calls t) (arguments-at t) arguments.Post
-arguments-returns-2 t c = answers-as (too-deep _ _ _ _ (c .before .before .byte-at .ensures) (c .before .if1 .left) (c .if2 .taken)) (refused-answers _ (c .before .before .before .before .pre .1 .0))
+arguments-returns-2 t c =
+    let bracket = c .before in
+    answers-as (too-deep _ _ _ _ (bracket .before .byte-at .ensures) (bracket .if1 .left) (c .if2 .taken))
+    (refused-answers _ (bracket .before .before .before .pre .1 .0))
 
 arguments-add-term : (t : ℕ) → arguments-lts.Need-add-term (arguments-calls t) (arguments-at t) arguments.Post
-arguments-add-term t c = omega (arith, within (c .before .before .before .before .args .s .now) _ 39 (c .before .before .byte-at .ensures) (c .before .if1 .left))
+arguments-add-term t c =
+    let bracket = c .before in
+    let start = bracket .before .before .before in
+    omega (arith, within (start .args .s .now) _ 39 (bracket .before .byte-at .ensures) (bracket .if1 .left))
 
 arguments-returns-3 : (t : ℕ) → arguments-lts.Need-returns-3 (arguments-calls t) (arguments-at t) arguments.Post
-arguments-returns-3 t c = answers-as (first-alone _ _ _ _ _ (ap readSays (c .before .before .before .before .before .before .e .given .1)) (c .before .before .before .byte-at2 .ensures) (c .before .before .if3 .taken) (omega arith) ∙ first-from _ _ _ _ (c .before .before .before .before .before .before .before .before .before .before .before .before .byte-at .ensures) (c .before .before .before .before .before .before .before .before .before .before .before .if1 .left) (omega arith) (omega arith) (c .before .before .before .before .before .before .before .before .term .ensures)) (c .closed .ensures)
+arguments-returns-3 t c =
+    let comma = c .before .before in
+    let read = comma .before .before .before .before in
+    let first = read .before .before in
+    let bracket = first .before .before .before in
+    answers-as (first-alone _ _ _ _ _ (ap readSays (read .e .given .1)) (comma .before .byte-at2 .ensures) (comma .if3 .taken) (omega arith)
+    ∙ first-from _ _ _ _ (bracket .before .byte-at .ensures) (bracket .if1 .left) (omega arith) (omega arith) (first .term .ensures))
+    (c .closed .ensures)
 
 arguments-add-term-2 : (t : ℕ) → arguments-lts.Need-add-term-2 (arguments-calls t) (arguments-at t) arguments.Post
-arguments-add-term-2 t c = omega (arith, within (c .before .before .before .before .before .before .before .before .before .before .before .before .args .s .now) _ 43 (c .before .byte-at2 .ensures) (c .if3 .left))
+arguments-add-term-2 t c =
+    let start = c .before .before .before .before .before .before .before .before .before .before .before .before in
+    omega (arith, within (start .args .s .now) _ 43 (c .before .byte-at2 .ensures) (c .if3 .left))
 
 arguments-returns-4 : (t : ℕ) → arguments-lts.Need-returns-4 (arguments-calls t) (arguments-at t) arguments.Post
-arguments-returns-4 t c = answers-as (second-pair _ _ _ _ _ (ap readSays (c .before .before .before .before .g .given .1)) (omega arith) ∙ second-from _ _ _ _ (ap readSays (c .before .before .before .before .before .before .before .before .before .before .before .before .e .given .1)) (c .before .before .before .before .before .before .before .before .before .byte-at2 .ensures) (c .before .before .before .before .before .before .before .before .if3 .left) (omega arith) (c .before .before .before .before .before .before .term2 .ensures) ∙ first-from _ _ _ _ (c .before .before .before .before .before .before .before .before .before .before .before .before .before .before .before .before .before .before .byte-at .ensures) (c .before .before .before .before .before .before .before .before .before .before .before .before .before .before .before .before .before .if1 .left) (omega arith) (omega arith) (c .before .before .before .before .before .before .before .before .before .before .before .before .before .before .term .ensures)) (c .closed2 .ensures)
+arguments-returns-4 t c =
+    let last = c .before .before .before .before in
+    let second = last .before .before in
+    let comma = second .before .before in
+    let read = comma .before .before .before .before in
+    let first = read .before .before in
+    let bracket = first .before .before .before in
+    answers-as (second-pair _ _ _ _ _ (ap readSays (last .g .given .1)) (omega arith)
+    ∙ second-from _ _ _ _ (ap readSays (read .e .given .1)) (comma .before .byte-at2 .ensures) (comma .if3 .left) (omega arith) (second .term2 .ensures)
+    ∙ first-from _ _ _ _ (bracket .before .byte-at .ensures) (bracket .if1 .left) (omega arith) (omega arith) (first .term .ensures))
+    (c .closed2 .ensures)
 
 arguments-returns-5 : (t : ℕ) → arguments-lts.Need-returns-5 (arguments-calls t) (arguments-at t) arguments.Post
-arguments-returns-5 t c = answers-as (second-refused _ _ _ _ (ap readSays (c .before .slip .given .1)) ∙ second-from _ _ _ _ (ap readSays (c .before .before .before .before .before .before .before .before .before .e .given .1)) (c .before .before .before .before .before .before .byte-at2 .ensures) (c .before .before .before .before .before .if3 .left) (omega arith) (c .before .before .before .term2 .ensures) ∙ first-from _ _ _ _ (c .before .before .before .before .before .before .before .before .before .before .before .before .before .before .before .byte-at .ensures) (c .before .before .before .before .before .before .before .before .before .before .before .before .before .before .if1 .left) (omega arith) (omega arith) (c .before .before .before .before .before .before .before .before .before .before .before .term .ensures)) (refused-answers _ (c .before .before .before .term2 .ensures .held))
+arguments-returns-5 t c =
+    let second = c .before .before .before in
+    let comma = second .before .before in
+    let read = comma .before .before .before .before in
+    let first = read .before .before in
+    let bracket = first .before .before .before in
+    answers-as (second-refused _ _ _ _ (ap readSays (c .before .slip .given .1))
+    ∙ second-from _ _ _ _ (ap readSays (read .e .given .1)) (comma .before .byte-at2 .ensures) (comma .if3 .left) (omega arith) (second .term2 .ensures)
+    ∙ first-from _ _ _ _ (bracket .before .byte-at .ensures) (bracket .if1 .left) (omega arith) (omega arith) (first .term .ensures))
+    (refused-answers _ (second .term2 .ensures .held))
 
 arguments-returns-6 : (t : ℕ) → arguments-lts.Need-returns-6 (arguments-calls t) (arguments-at t) arguments.Post
-arguments-returns-6 t c = answers-as (first-refused _ _ _ _ (ap readSays (c .before .slip2 .given .1)) ∙ first-from _ _ _ _ (c .before .before .before .before .before .before .before .byte-at .ensures) (c .before .before .before .before .before .before .if1 .left) (omega arith) (omega arith) (c .before .before .before .term .ensures)) (refused-answers _ (c .before .before .before .term .ensures .held))
+arguments-returns-6 t c =
+    let first = c .before .before .before in
+    let bracket = first .before .before .before in
+    answers-as (first-refused _ _ _ _ (ap readSays (c .before .slip2 .given .1))
+    ∙ first-from _ _ _ _ (bracket .before .byte-at .ensures) (bracket .if1 .left) (omega arith) (omega arith) (first .term .ensures))
+    (refused-answers _ (first .term .ensures .held))
 
 term-add-number-at : (t : ℕ) → term-lts.Need-add-number-at (term-calls t) (term-at t) term.Post
-term-add-number-at t c = omega (arith, within (c .before .before .before .args .s .now) _ 101 (c .before .byte-at .ensures) (c .if1 .taken))
+term-add-number-at t c =
+    let start = c .before .before .before in
+    omega (arith, within (start .args .s .now) _ 101 (c .before .byte-at .ensures) (c .if1 .taken))
 
 term-arguments-requires : (t : ℕ) → term-lts.Need-arguments-requires (term-calls t) (term-at t) term.Post
-term-arguments-requires t c κs = let bounds = subst Bounded (c .before .before .e .given .1) (c .before .before .before .before .number-at .ensures .1) in (omega arith, ((c .before .before .before .before .before .before .before .before .pre .1), bounds .1))
+term-arguments-requires t c κs =
+    let read = c .before .before in
+    let start = read .before .before .before .before .before .before in
+    let bounds = subst Bounded (read .e .given .1) (read .before .before .number-at .ensures .1) in
+    (omega arith, (start .pre .1, bounds .1))
 
 term-returns : (t : ℕ) → term-lts.Need-returns (term-calls t) (term-at t) term.Post
-term-returns t c = answers-as (term-applied _ _ _ _ (c .before .before .before .before .before .before .before .before .before .byte-at .ensures) (c .before .before .before .before .before .before .before .before .if1 .taken) (omega arith) (sym (c .before .before .before .before .before .before .before .number-at .ensures .0) ∙ ap foundSays (c .before .before .before .before .before .e .given .1)) (c .before .before .arguments .ensures)) (c .shift .ensures)
+term-returns t c =
+    let list = c .before .before in
+    let read = list .before .before .before in
+    let symbol = read .before .before in
+    let letter = symbol .before in
+    answers-as (term-applied _ _ _ _ (letter .before .byte-at .ensures) (letter .if1 .taken) (omega arith)
+    (sym (symbol .number-at .ensures .0) ∙ ap foundSays (read .e .given .1)) (list .arguments .ensures))
+    (c .shift .ensures)
 
 term-returns-2 : (t : ℕ) → term-lts.Need-returns-2 (term-calls t) (term-at t) term.Post
-term-returns-2 t c = answers-as (term-unsymbol _ _ _ _ (c .before .before .before .before .before .byte-at .ensures) (c .before .before .before .before .if1 .taken) (omega arith) (sym (c .before .before .before .number-at .ensures .0) ∙ ap foundSays (c .before .slip .given .1))) (refused-answers _ (c .before .before .before .before .before .before .before .pre .1))
+term-returns-2 t c =
+    let symbol = c .before .before .before in
+    let letter = symbol .before in
+    let start = letter .before .before .before in
+    answers-as (term-unsymbol _ _ _ _ (letter .before .byte-at .ensures) (letter .if1 .taken) (omega arith)
+    (sym (symbol .number-at .ensures .0) ∙ ap foundSays (c .before .slip .given .1)))
+    (refused-answers _ (start .pre .1))
 
 term-add-value : (t : ℕ) → term-lts.Need-add-value (term-calls t) (term-at t) term.Post
-term-add-value t c = omega (arith, within (c .before .before .before .before .args .s .now) _ 119 (c .before .before .byte-at .ensures) (c .if2 .taken))
+term-add-value t c =
+    let byte = c .before .before in
+    let start = byte .before .before in
+    omega (arith, within (start .args .s .now) _ 119 (byte .byte-at .ensures) (c .if2 .taken))
 
 term-returns-3 : (t : ℕ) → term-lts.Need-returns-3 (term-calls t) (term-at t) term.Post
-term-returns-3 t c = answers-as (term-variable _ _ _ _ (c .before .before .before .before .before .before .byte-at .ensures) (c .before .before .before .before .before .if1 .left) (c .before .before .before .before .if2 .taken) (omega arith) (c .before .before .value .ensures)) (c .shift2 .ensures)
+term-returns-3 t c =
+    let number = c .before .before in
+    let letter = number .before .before in
+    answers-as (term-variable _ _ _ _ (letter .before .before .byte-at .ensures) (letter .before .if1 .left) (letter .if2 .taken) (omega arith) (number .value .ensures))
+    (c .shift2 .ensures)
 
 term-add-value-2 : (t : ℕ) → term-lts.Need-add-value-2 (term-calls t) (term-at t) term.Post
-term-add-value-2 t c = omega (arith, within (c .before .before .before .before .before .args .s .now) _ 44 (c .before .before .before .byte-at .ensures) (c .if3 .taken))
+term-add-value-2 t c =
+    let byte = c .before .before .before in
+    let start = byte .before .before in
+    omega (arith, within (start .args .s .now) _ 44 (byte .byte-at .ensures) (c .if3 .taken))
 
 term-returns-4 : (t : ℕ) → term-lts.Need-returns-4 (term-calls t) (term-at t) term.Post
-term-returns-4 t c = answers-as (term-negative _ _ _ _ (c .before .before .before .before .before .byte-at .ensures) (c .before .before .before .before .if1 .left) (c .before .before .before .if2 .left) (c .before .before .if3 .taken) (omega arith)) (c .value2 .ensures)
+term-returns-4 t c =
+    let sign = c .before .before in
+    let letter = sign .before in
+    let byte = letter .before .before in
+    answers-as (term-negative _ _ _ _ (byte .byte-at .ensures) (letter .before .if1 .left) (letter .if2 .left) (sign .if3 .taken) (omega arith)) (c .value2 .ensures)
 
 term-returns-5 : (t : ℕ) → term-lts.Need-returns-5 (term-calls t) (term-at t) term.Post
-term-returns-5 t c = answers-as (term-number _ _ _ _ (c .before .before .before .before .before .byte-at .ensures) (c .before .before .before .before .if1 .left) (c .before .before .before .if2 .left) (c .before .before .if3 .left)) (c .value3 .ensures)
+term-returns-5 t c =
+    let sign = c .before .before in
+    let letter = sign .before in
+    let byte = letter .before .before in
+    answers-as (term-number _ _ _ _ (byte .byte-at .ensures) (letter .before .if1 .left) (letter .if2 .left) (sign .if3 .left)) (c .value3 .ensures)
 
 pub +arguments+term-spec : {M : Type 1} → statement M
 +arguments+term-spec =
     close μ-arguments μ-term
-    (λ t. arguments-lts.spec (arguments-calls t) (arguments-at t) arguments.Post (λ c κs. search needs) (arguments-returns t) (arguments-returns-2 t) (arguments-add-term t) (λ c. search needs) (λ c κs. search needs) (λ c. search needs) (λ c. search needs) (λ c. search needs) (λ c. search needs) (λ c. search needs) (λ c κs. search needs) (λ c. search needs) (λ c. search needs) (λ c κs. search needs) (arguments-returns-3 t) (arguments-add-term-2 t) (λ c. search needs) (λ c κs. search needs) (λ c. search needs) (λ c. search needs) (λ c. search needs) (λ c. search needs) (λ c. search needs) (λ c. search needs) (λ c κs. search needs) (λ c. search needs) (λ c. search needs) (arguments-returns-4 t) (arguments-returns-5 t) (arguments-returns-6 t))
-    (λ t. term-lts.spec (term-calls t) (term-at t) term.Post (λ c κs. search needs) (term-add-number-at t) (λ c κs. search needs) (λ c. search needs) (term-arguments-requires t) (λ c κs. search needs) (λ c. search needs) (term-returns t) (term-returns-2 t) (term-add-value t) (λ c κs. search needs) (λ c κs. search needs) (term-returns-3 t) (term-add-value-2 t) (λ c κs. search needs) (term-returns-4 t) (λ c κs. search needs) (term-returns-5 t))
+    (λ t. arguments-lts.spec (arguments-calls t) (arguments-at t) arguments.Post (λ c κs. search needs) (arguments-returns t) (arguments-returns-2 t)
+    (arguments-add-term t) (λ c. search needs) (λ c κs. search needs) (λ c. search needs) (λ c. search needs) (λ c. search needs) (λ c. search needs)
+    (λ c. search needs) (λ c κs. search needs) (λ c. search needs) (λ c. search needs) (λ c κs. search needs) (arguments-returns-3 t)
+    (arguments-add-term-2 t) (λ c. search needs) (λ c κs. search needs) (λ c. search needs) (λ c. search needs) (λ c. search needs)
+    (λ c. search needs) (λ c. search needs) (λ c. search needs) (λ c κs. search needs) (λ c. search needs) (λ c. search needs)
+    (arguments-returns-4 t) (arguments-returns-5 t) (arguments-returns-6 t))
+    (λ t. term-lts.spec (term-calls t) (term-at t) term.Post (λ c κs. search needs) (term-add-number-at t) (λ c κs. search needs) (λ c. search needs)
+    (term-arguments-requires t) (λ c κs. search needs) (λ c. search needs) (term-returns t) (term-returns-2 t) (term-add-value t)
+    (λ c κs. search needs) (λ c κs. search needs) (term-returns-3 t) (term-add-value-2 t) (λ c κs. search needs) (term-returns-4 t)
+    (λ c κs. search needs) (term-returns-5 t))
