@@ -1,2 +1,3 @@
 mod Join
 pub mod Unique
+pub mod Place

@@ -25,12 +25,12 @@ use Rattle.transcript.specs.Transcribed.{sheetRoom, SaysSheet, Transcrib
 use Rattle.transcript.proofs.Join.{formed, fields}
 
 -- what a call comes to: the room is too short, or the text has a first slip, or it is whole
-data Fate (text old : List ℕ) : Type 0 where
+pub data Fate (text old : List ℕ) : Type 0 where
   short : length old < sheetRoom → Fate text old
   slip : sheetRoom ≤ length old → (N P : ℕ) → FirstSlip text N P → Fate text old
   sheet : sheetRoom ≤ length old → (m : List ℕ) (l : ℕ) → Whole text m l → Fate text old
 
-fate : (text old : List ℕ) → Fate text old
+pub fate : (text old : List ℕ) → Fate text old
 fate text old = go (decLt (length old) sheetRoom) (decides text)
   where
     go : Dec (length old < sheetRoom) → First text ⊎ Read text → Fate text old
@@ -38,7 +38,7 @@ fate text old = go (decLt (length old) sheetRoom) (decides text)
     go (no h) (inl F) = slip (omega arith) (F .number) (F .place) (F .first)
     go (no h) (inr R) = sheet (omega arith) (R .memory) (R .count) (R .whole)
 
-numbers : {bs : List ℕ} {N P : ℕ} → Slip bs N P → (20 ≤ N) × (N ≤ 23)
+pub numbers : {bs : List ℕ} {N P : ℕ} → Slip bs N P → (20 ≤ N) × (N ≤ 23)
 numbers (form f) = (omega arith, omega arith)
 numbers (deep x d) = (omega arith, omega arith)
 numbers (range x d) = (omega arith, omega arith)
