@@ -1,6 +1,7 @@
 //! A second opinion on a sheet: a panel that shares nothing with the proved one but document 01,
 //! "What should be built, and its rules" (and the frames in which `batch` is asked). The two are
-//! compared on random sheets, and their speed is measured against each other.
+//! compared on random sheets, and their speed is measured against each other. Beside it is a reader
+//! of sheets typed as text, resting on request 1 of document 02, which is compared on random texts.
 //!
 //! - `sheet` reads the fields and sends bad sheets back;
 //! - `groups`, `gaps`, `order` and `functions` know what is tied and how to tie more;
@@ -9,11 +10,14 @@
 //! - `meaning` checks values against the document's meaning, and shares nothing with the judging
 //!   but the reading of fields;
 //! - `shortcut` names the document's shortcuts, which a panel can take on purpose;
-//! - `random` makes sheets to try, for the programs that compare and time panels.
+//! - `text` reads a sheet typed as text, and names the slips that a reader can make on purpose;
+//! - `random` makes sheets and texts to try, for the programs that compare and time panels;
+//! - `comparing` is what the programs that compare have in common.
 
 #![forbid(unsafe_code)]
 #![warn(missing_docs)]
 
+pub mod comparing;
 mod functions;
 mod gaps;
 mod groups;
@@ -23,6 +27,7 @@ mod panel;
 pub mod random;
 pub mod sheet;
 mod shortcut;
+pub mod text;
 mod verdict;
 
 pub use panel::Panel;

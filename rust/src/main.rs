@@ -1,15 +1,21 @@
 //! The program `second`: one sheet from standard input and a line for it, or many sheets in frames
-//! and an answer to each.
+//! and an answer to each. The same of texts.
 //!
-//! Rests on "When the panel sends a sheet back" for the line.
+//! Rests on "When the panel sends a sheet back" for the line, and on the paper on byte forms for the
+//! frames of texts.
 
-use second::{sheet, Panel, Shortcut};
+use second::text::{Reader, Slip};
+use second::{sheet, text, Panel, Shortcut};
 use std::io::{self, BufReader, BufWriter, Read, Write};
 use std::process::ExitCode;
 
 /// One more than the longest sheet, so that a sheet too long is seen to be.
 const LENT: u64 = 775;
 const LONGEST_FRAME: usize = 4096;
+/// The longest text that is read from standard input, and in a frame; and a frame's largest room.
+const LONGEST_TYPED: usize = 65_535;
+const LONGEST_TEXT: usize = 65_536;
+const LARGEST_ROOM: usize = 2048;
 const FILL: u8 = 0xAA;
 
 fn main() -> ExitCode {
@@ -20,6 +26,12 @@ fn main() -> ExitCode {
         ["batch"] => batch(Panel::new()),
         ["batch", name] => match Shortcut::from_name(name) {
             Some(shortcut) => batch(Panel::with(shortcut)),
+            None => return usage(),
+        },
+        ["typed"] => one_text(),
+        ["batch_text"] => batch_text(Reader::new()),
+        ["batch_text", name] => match Slip::from_name(name) {
+            Some(slip) => batch_text(Reader::with(slip)),
             None => return usage(),
         },
         _ => return usage(),
@@ -34,17 +46,39 @@ fn main() -> ExitCode {
 }
 
 fn usage() -> ExitCode {
-    let names = Shortcut::ALL.map(Shortcut::name).join("|");
-    eprintln!("second < SHEET\nsecond batch [{names}] < FRAMES > ANSWERS");
+    let shortcuts = Shortcut::ALL.map(Shortcut::name).join("|");
+    let slips = Slip::ALL.map(|(_, name)| name).join("|");
+    eprintln!(
+        "second < SHEET\nsecond batch [{shortcuts}] < FRAMES > ANSWERS\n\
+         second typed < TEXT\nsecond batch_text [{slips}] < FRAMES > ANSWERS"
+    );
     ExitCode::from(2)
 }
 
 fn one_sheet() -> io::Result<()> {
     let mut lent = Vec::new();
     io::stdin().lock().take(LENT).read_to_end(&mut lent)?;
+    writeln!(io::stdout(), "{}", line(&lent))
+}
+
+fn one_text() -> io::Result<()> {
+    let mut text = Vec::new();
+    let more = LONGEST_TYPED as u64 + 1;
+    io::stdin().lock().take(more).read_to_end(&mut text)?;
+    let mut room = [0; text::ROOM];
+    let line = match Reader::new().read(&text, &mut room) {
+        _ if text.len() > LONGEST_TYPED => format!("longer than {LONGEST_TYPED} bytes"),
+        (0, length) => line(&room[..length as usize]),
+        (number, place) => format!("refused {number} at {place}"),
+    };
+    writeln!(io::stdout(), "{line}")
+}
+
+/// What is said of a sheet.
+fn line(lent: &[u8]) -> String {
     let mut room = [0; sheet::ROOM];
-    let (number, place) = Panel::new().judge(&lent, &mut room);
-    let line = match number {
+    let (number, place) = Panel::new().judge(lent, &mut room);
+    match number {
         0 => String::from("holds"),
         1 => room[8..usize::from(place)]
             .iter()
@@ -52,8 +86,7 @@ fn one_sheet() -> io::Result<()> {
                 format!("{line} {entry}")
             }),
         _ => format!("refused {number} at {place}"),
-    };
-    writeln!(io::stdout(), "{line}")
+    }
 }
 
 /// A frame is a count in two bytes and so many bytes of a sheet; the answer to it is the number,
@@ -70,6 +103,31 @@ fn batch(mut panel: Panel) -> io::Result<()> {
         }
         let mut room = [FILL; sheet::ROOM];
         let (number, place) = panel.judge(&lent[..length], &mut room);
+        answers.write_all(&[number])?;
+        answers.write_all(&place.to_be_bytes())?;
+        answers.write_all(&room)?;
+    }
+    answers.flush()
+}
+
+/// A frame is the room's size in two bytes, a count in four, and so many bytes of text; the answer
+/// to it is the number, the place and the whole room. It ends as a batch of sheets does.
+fn batch_text(reader: Reader) -> io::Result<()> {
+    let mut frames = BufReader::new(io::stdin().lock());
+    let mut answers = BufWriter::new(io::stdout().lock());
+    let (mut size, mut count) = ([0; 2], [0; 4]);
+    let mut text = vec![0; LONGEST_TEXT];
+    while fill(&mut size, &mut frames, &mut answers)? {
+        let size = usize::from(u16::from_be_bytes(size));
+        if size > LARGEST_ROOM || !fill(&mut count, &mut frames, &mut answers)? {
+            break;
+        }
+        let length = u32::from_be_bytes(count) as usize;
+        if length > LONGEST_TEXT || !fill(&mut text[..length], &mut frames, &mut answers)? {
+            break;
+        }
+        let mut room = vec![FILL; size];
+        let (number, place) = reader.read(&text[..length], &mut room);
         answers.write_all(&[number])?;
         answers.write_all(&place.to_be_bytes())?;
         answers.write_all(&room)?;

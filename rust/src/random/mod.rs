@@ -1,6 +1,6 @@
 //! Random sheets, for the programs that test and time panels: `families` has the recipes, `sheet`
 //! is what they are made in, and `words` shows one. Rests on document 01's tables, and not on the
-//! panel beside it.
+//! panel beside it. Random texts, by `texts` and `typist`, rest on document 02 in the same way.
 
 #![allow(missing_docs)]
 
@@ -8,6 +8,8 @@ pub mod families;
 pub mod judged;
 mod levels;
 pub mod sheet;
+pub mod texts;
+mod typist;
 pub mod words;
 mod wrong;
 

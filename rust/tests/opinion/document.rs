@@ -18,7 +18,7 @@ fn read(name: &str) -> Vec<u8> {
     bytes
 }
 
-fn line(answer: &Answer) -> String {
+pub fn line(answer: &Answer) -> String {
     match answer {
         Answer::Holds(..) => String::from("holds"),
         Answer::Clashes(list) => list.iter().fold(String::from("clashes"), |line, entry| {

@@ -2,6 +2,8 @@
 
 mod common;
 mod document;
+mod form;
 mod naive;
 mod program;
 mod random;
+mod texts;

@@ -1,6 +1,7 @@
-//! The program: one line for a sheet, and a batch of frames.
+//! The program: one line for a sheet or a text, and batches of frames.
 
 use second::sheet::ROOM;
+use second::text::{Reader, Slip};
 use second::Panel;
 use std::io::{Read, Write};
 use std::process::{Command, Output, Stdio};
@@ -79,6 +80,74 @@ fn a_batch_answers_every_whole_frame_before_one_cut_short_or_too_large() {
 }
 
 #[test]
+fn one_text_gets_one_line() {
+    let longest = "x0<x0\n".repeat(10_923).into_bytes();
+    for (text, line) in [
+        (&b"x0<=x1\nx1<=x0\nf7(x0)!=f7(x1)\n"[..], "clashes 0 1 2\n"),
+        (b"x0<=x1\n", "holds\n"),
+        (b"x0<=x1", "refused 20 at 6\n"),
+        (b"", "refused 20 at 0\n"),
+        (&longest[..65_535], "refused 23 at 384\n"),
+        (&longest, "longer than 65535 bytes\n"),
+    ] {
+        let output = run(&["typed"], text);
+        assert!(output.status.success());
+        assert_eq!(String::from_utf8(output.stdout).unwrap(), line);
+    }
+}
+
+/// A frame of a text, and the answer to it.
+fn text_frame(room: u16, text: &[u8]) -> Vec<u8> {
+    let count = text.len() as u32;
+    [&room.to_be_bytes()[..], &count.to_be_bytes(), text].concat()
+}
+
+fn text_answer(reader: Reader, room: u16, text: &[u8]) -> Vec<u8> {
+    let mut room = vec![0xAA; usize::from(room)];
+    let (number, place) = reader.read(text, &mut room);
+    [&[number][..], &place.to_be_bytes(), &room].concat()
+}
+
+#[test]
+fn a_batch_of_texts_answers_every_whole_frame_before_one_cut_short_or_too_large() {
+    let long = vec![b'x'; 65_536];
+    let asked: [(u16, &[u8]); 6] = [
+        (774, b"x0<=x1\n"),
+        (773, b"x0<=x1\n"),
+        (0, b""),
+        (774, b""),
+        (2048, &long),
+        (2048, b"f7(x0)=x0+1\n"),
+    ];
+    let frames = asked.map(|(room, text)| text_frame(room, text)).concat();
+    let answers = asked.map(|(room, text)| text_answer(Reader::new(), room, text));
+    let answers = answers.concat();
+    let cut = &text_frame(774, b"x0=x1\n")[..11];
+    let too_large = text_frame(2049, b"x0=x1\n");
+    let too_long = text_frame(774, &[b'x'; 65_537]);
+    for end in [
+        &[][..],
+        &[3],
+        &[3, 6],
+        &[3, 6, 0, 0, 0],
+        cut,
+        &too_large,
+        &too_long,
+    ] {
+        let output = run(&["batch_text"], &[&frames, end].concat());
+        assert!(output.status.success());
+        assert_eq!(output.stdout, answers);
+    }
+}
+
+#[test]
+fn a_batch_of_texts_may_make_a_slip() {
+    let (slip, text) = (Slip::from_name("again").unwrap(), b"x0=x0\n");
+    let output = run(&["batch_text", "again"], &text_frame(774, text));
+    assert_eq!(output.stdout, text_answer(Reader::with(slip), 774, text));
+}
+
+#[test]
 fn a_batch_may_take_a_shortcut_and_other_words_are_not_understood() {
     let sheet = read("06");
     let fewest = second::Shortcut::from_name("fewest").unwrap();
@@ -88,6 +157,9 @@ fn a_batch_may_take_a_shortcut_and_other_words_are_not_understood() {
         &["bunch"][..],
         &["batch", "honest"],
         &["batch", "once", "twice"],
+        &["batch", "again"],
+        &["batch_text", "once"],
+        &["typed", "again"],
     ] {
         let output = run(arguments, &[]);
         assert_eq!(output.status.code(), Some(2));

@@ -1,8 +1,9 @@
 //! What is printed: the differences, a line for each family, and a line for all.
 
 use crate::answer::{Answer, CLASHES, HOLDS};
-use crate::ask::Ask;
-use crate::tested::Sent;
+use crate::Sent;
+use second::comparing::ask::Ask;
+use second::comparing::block;
 use second::random::families::FAMILIES;
 use second::random::words::{hex, words};
 use std::ops::RangeInclusive;
@@ -133,12 +134,5 @@ impl Report {
             return 3;
         }
         0
-    }
-}
-
-/// Lines behind a label.
-fn block(label: &str, lines: &[String]) {
-    for (i, line) in lines.iter().enumerate() {
-        println!("    {:9} {line}", if i == 0 { label } else { "" });
     }
 }
