@@ -1,7 +1,13 @@
-// The call for other languages: a static library with one function of C's calling convention.
-// It is the panel's `judge` with its answer in one number, and promises what that promises.
-ghost use Prim.Native.Nat.{_/_, _%_};
+// The calls for other languages: a static library with two functions of C's calling convention.
+// They are the panel's `judge` and the transcript's `transcribe`, each with its answer in one number, and promise what those promise.
+ghost use mathlib.Core.Path.{_≡_};
+ghost use Prim.Native.Nat.{_/_, _%_, _≤_, _<_};
+ghost use lib.ListN.{length};
 ghost use Rattle.promise.specs.Answered.{Answered};
+ghost use Rattle.transcript.specs.Transcribed.{Transcribed};
+
+// 2^32: places below it fit the answer's low half.
+const PLACES: u64 = 4294967296;
 
 // The answer's number × 65,536 plus its place.
 #[no_mangle]
@@ -10,4 +16,18 @@ pub extern "C" fn baruvkesh_judge(sheet: &[u8], room: &mut [u8]) -> u32
 {
     let answer = panel::judge(sheet, room);
     (answer.number() as u32) * 65536 + (answer.place() as u32)
+}
+
+// The answer's number × 2^32 plus its place. A text of 2^32 bytes or more isn't read, since a place in it may not fit: it gets the largest
+// number, which is no other answer, and leaves the room as it was.
+#[no_mangle]
+pub extern "C" fn baruvkesh_transcribe(text: &[u8], room: &mut [u8]) -> u64
+    ensures { λ r. ⌜ (length (now (text .entry)) < 4294967296 → Transcribed (now (text .entry)) (now (room .entry)) (now (room .exit)) (r / 4294967296) (r % 4294967296)) ⌝ }
+    ensures { λ r. ⌜ (4294967296 ≤ length (now (text .entry)) → (r ≡ 18446744073709551615) × (now (room .exit) ≡ now (room .entry))) ⌝ }
+{
+    if PLACES <= text.len() as u64 {
+        return u64::MAX;
+    }
+    let typed = transcript::transcribe(text, room);
+    (typed.number() as u64) * PLACES + (typed.place() as u64)
 }
