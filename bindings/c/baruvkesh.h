@@ -1,4 +1,4 @@
-/* The panel's call for C and C++. The code behind it is proved, for x86-64 Linux: `rt staticlib baruvkesh` writes it to
+/* The panel's calls for C and C++. The code behind them is proved, for x86-64 Linux: `rt staticlib baruvkesh` writes it to
  * target/staticlib/libbaruvkesh.a, and a program links that archive and the C library. */
 #ifndef BARUVKESH_H
 #define BARUVKESH_H
@@ -56,6 +56,34 @@ uint32_t baruvkesh_judge(const uint8_t *sheet, size_t sheet_len, uint8_t *room, 
 /* The two halves of what baruvkesh_judge answers. */
 static inline unsigned baruvkesh_number(uint32_t answer) { return answer >> 16; }
 static inline size_t baruvkesh_place(uint32_t answer) { return answer & 0xFFFF; }
+
+/* The length of a room that is enough for the sheet of every text: that of the longest sheet. */
+#define BARUVKESH_SHEET_ROOM BARUVKESH_LONGEST_SHEET
+
+/* Reads a sheet that is typed as text, and answers number * 2^32 + place. A text is the bytes of document 02, request 1: lines of a term,
+ * one of = != <= < and a term, each ended by a newline. Terms are x0 to x99, whole numbers, f0 to f255 with one or two terms in round
+ * brackets, and any of these but a number with + or - and digits behind it; numbers and shifts are -32768 to 32767:
+ *
+ *   number  given exactly when                                               place
+ *   0       the text has none of the faults below                            length of its sheet
+ *   20      no text of this form begins so, or the text ends too early       that byte, or text_len
+ *   21      an opening bracket goes deeper than 16                           that byte
+ *   22      a number is out of range                                         the first digit that takes it there
+ *   23      a 65th term, or a 65th line                                      the term's last byte, or the line's first
+ *   24      room_len under 774                                               0
+ *
+ * 24 is checked first; of the others the one at the earliest byte is given, the lowest number first at one byte. With 20 to 24 the whole
+ * room keeps what it held. With 0 the room starts with the text's sheet, as baruvkesh_judge takes it, and the bytes past its length keep
+ * what they held. Terms are numbered in the order in which they are completed, and entry numbers are line numbers from 0.
+ *
+ * A text of 2^32 bytes or more isn't read: it gets UINT64_MAX, which is no other answer, and the whole room keeps what it held.
+ *
+ * The text is never written. Lengths, pointers, memory and threads are as with baruvkesh_judge. */
+uint64_t baruvkesh_transcribe(const uint8_t *text, size_t text_len, uint8_t *room, size_t room_len);
+
+/* The two halves of what baruvkesh_transcribe answers. */
+static inline unsigned baruvkesh_typed_number(uint64_t answer) { return (unsigned)(answer >> 32); }
+static inline size_t baruvkesh_typed_place(uint64_t answer) { return (size_t)(answer & 0xFFFFFFFF); }
 
 #ifdef __cplusplus
 }

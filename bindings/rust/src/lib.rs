@@ -13,12 +13,32 @@
 //!     Answer::Refused(why) => println!("refused {} at {}", why.number(), why.place()),
 //! }
 //! ```
+//!
+//! A sheet may also be typed as text, one entry a line; [`transcribe`] writes its bytes:
+//!
+//! ```
+//! use baruvkesh::{judge, transcribe, Answer, EntryNumber, Typed, ROOM_NEEDED, SHEET_ROOM};
+//!
+//! let mut sheet = [0; SHEET_ROOM];
+//! let mut room = [0; ROOM_NEEDED];
+//! match transcribe(b"x0<=x1\nx1<=x0\nf7(x0)!=f7(x1)\n", &mut sheet) {
+//!     Typed::Sheet(sheet) => match judge(sheet, &mut room) {
+//!         Answer::Clashes(list) => assert!(list.entries().eq([0, 1, 2].map(EntryNumber))),
+//!         other => println!("{other:?}"),
+//!     },
+//!     Typed::Refused(slip) => println!("refused {} at {}", slip.number(), slip.place()),
+//!     Typed::TooLong => println!("a text of 2^32 bytes or more"),
+//! }
+//! ```
 
 #[cfg(not(all(target_arch = "x86_64", target_os = "linux")))]
 compile_error!("the proved archive is x86-64 Linux code");
 
 /// Length of an answer room that is enough for every sheet.
 pub const ROOM_NEEDED: usize = 520;
+
+/// Length of a room that is enough for the sheet of every text.
+pub const SHEET_ROOM: usize = 774;
 
 /// The number of a term. It is never taken for an entry's.
 #[derive(Clone, Copy, Debug, PartialEq, Eq, PartialOrd, Ord)]
@@ -61,6 +81,33 @@ pub enum Refusal {
     /// 14: this entry is the lowest with kind over 3, a non-zero second byte, or a or b not below T.
     WrongEntry(EntryNumber),
     /// 15: answer room under [`ROOM_NEEDED`] bytes.
+    Room,
+}
+
+/// What the transcript says of a text.
+#[derive(Clone, Copy, Debug, PartialEq, Eq)]
+pub enum Typed<'a> {
+    /// The text's sheet, in the first bytes of the room.
+    Sheet(&'a [u8]),
+    /// The text is sent back, and the whole room keeps what it held.
+    Refused(Slip),
+    /// The text has 2^32 bytes or more and isn't read; the whole room keeps what it held.
+    TooLong,
+}
+
+/// Why a text is sent back, and at which byte. [`Slip::Room`] is looked for first; of the others the one at the earliest byte is given, the
+/// lowest number first at one byte.
+#[derive(Clone, Copy, Debug, PartialEq, Eq)]
+pub enum Slip {
+    /// 20: no text of the form begins so, or the text ends too early.
+    Form(usize),
+    /// 21: an opening bracket that goes deeper than 16.
+    Deep(usize),
+    /// 22: the first digit that takes a number out of range.
+    Range(usize),
+    /// 23: the last byte of a 65th term, or the first of a 65th line.
+    Full(usize),
+    /// 24: room under [`SHEET_ROOM`] bytes.
     Room,
 }
 
@@ -138,8 +185,35 @@ impl Refusal {
     }
 }
 
+impl Slip {
+    /// 20 to 24.
+    pub fn number(&self) -> u8 {
+        match self {
+            Slip::Form(_) => 20,
+            Slip::Deep(_) => 21,
+            Slip::Range(_) => 22,
+            Slip::Full(_) => 23,
+            Slip::Room => 24,
+        }
+    }
+
+    /// The byte, which is the text's length where the text ends too early; or 0.
+    pub fn place(&self) -> usize {
+        match *self {
+            Slip::Form(byte) | Slip::Deep(byte) | Slip::Range(byte) | Slip::Full(byte) => byte,
+            Slip::Room => 0,
+        }
+    }
+}
+
 extern "C" {
     fn baruvkesh_judge(sheet: *const u8, sheet_len: usize, room: *mut u8, room_len: usize) -> u32;
+    fn baruvkesh_transcribe(
+        text: *const u8,
+        text_len: usize,
+        room: *mut u8,
+        room_len: usize,
+    ) -> u64;
 }
 
 /// Judges the sheet, and writes the answer record to the first bytes of the room unless the sheet is refused. The bytes past the record
@@ -158,6 +232,27 @@ pub fn judge<'a>(sheet: &[u8], room: &'a mut [u8]) -> Answer<'a> {
         13 => Answer::Refused(Refusal::WrongTerm(TermNumber(place as u8))),
         14 => Answer::Refused(Refusal::WrongEntry(EntryNumber(place as u8))),
         15 => Answer::Refused(Refusal::Room),
+        number => unreachable!("the contract has no number {number}"),
+    }
+}
+
+/// Reads a sheet that is typed as text, and writes its bytes to the first bytes of the room unless the text is refused. The bytes past the
+/// sheet keep what they held. Any bytes and any two lengths are allowed. Entry numbers are line numbers, from 0.
+pub fn transcribe<'a>(text: &[u8], room: &'a mut [u8]) -> Typed<'a> {
+    // SAFETY: the function has no precondition but two slices that don't overlap, and these are.
+    let answer =
+        unsafe { baruvkesh_transcribe(text.as_ptr(), text.len(), room.as_mut_ptr(), room.len()) };
+    if answer == u64::MAX {
+        return Typed::TooLong;
+    }
+    let place = (answer & 0xFFFF_FFFF) as usize;
+    match answer >> 32 {
+        0 => Typed::Sheet(&room[..place]),
+        20 => Typed::Refused(Slip::Form(place)),
+        21 => Typed::Refused(Slip::Deep(place)),
+        22 => Typed::Refused(Slip::Range(place)),
+        23 => Typed::Refused(Slip::Full(place)),
+        24 => Typed::Refused(Slip::Room),
         number => unreachable!("the contract has no number {number}"),
     }
 }

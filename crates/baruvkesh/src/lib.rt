@@ -1,10 +1,8 @@
 // The calls for other languages: a static library with two functions of C's calling convention.
 // They are the panel's `judge` and the transcript's `transcribe`, each with its answer in one number, and promise what those promise.
-ghost use mathlib.Core.Path.{_≡_};
-ghost use Prim.Native.Nat.{_/_, _%_, _≤_, _<_};
-ghost use lib.ListN.{length};
+ghost use Prim.Native.Nat.{_/_, _%_};
 ghost use Rattle.promise.specs.Answered.{Answered};
-ghost use Rattle.transcript.specs.Transcribed.{Transcribed};
+ghost use Rattle.baruvkesh.specs.Called.{Called};
 
 // 2^32: places below it fit the answer's low half.
 const PLACES: u64 = 4294967296;
@@ -22,8 +20,7 @@ pub extern "C" fn baruvkesh_judge(sheet: &[u8], room: &mut [u8]) -> u32
 // number, which is no other answer, and leaves the room as it was.
 #[no_mangle]
 pub extern "C" fn baruvkesh_transcribe(text: &[u8], room: &mut [u8]) -> u64
-    ensures { λ r. ⌜ (length (now (text .entry)) < 4294967296 → Transcribed (now (text .entry)) (now (room .entry)) (now (room .exit)) (r / 4294967296) (r % 4294967296)) ⌝ }
-    ensures { λ r. ⌜ (4294967296 ≤ length (now (text .entry)) → (r ≡ 18446744073709551615) × (now (room .exit) ≡ now (room .entry))) ⌝ }
+    ensures { λ r. ⌜ Called (now (text .entry)) (now (room .entry)) (now (room .exit)) r ⌝ }
 {
     if PLACES <= text.len() as u64 {
         return u64::MAX;

@@ -18,7 +18,7 @@ read-back {number = number} {place} r t h e =
     rw (n, p) t
 
 returns : tie.Need-returns
-returns c = (λ h. absurd (omega arith), λ h. (refl, refl))
+returns c = record { read = λ h. absurd (omega arith); answer-is = λ h. refl; room-is = λ h. refl }
 
 low : (c : tie.After-transcribe) → placeOf (c .transcribe .result) ≤ 4294967295
 low c = place-within (c .transcribe .ensures) 4294967295 (omega arith) (omega arith)
@@ -29,7 +29,11 @@ add-result c = omega (arith, low (c .before .before .before .before))
 returns-2 : tie.Need-returns-2
 returns-2 c =
     let typed = c .before .before .before .before in
-    (λ h. read-back _ (typed .transcribe .ensures) (omega (arith, low typed)) (omega arith), λ h. absurd (omega arith))
+    record {
+      read = λ h. read-back _ (typed .transcribe .ensures) (omega (arith, low typed)) (omega arith);
+      answer-is = λ h. absurd (omega arith);
+      room-is = λ h. absurd (omega arith);
+    }
 
 pub baruvkesh-transcribe-spec : {M : Type 1} → statement M
 baruvkesh-transcribe-spec =

@@ -5,7 +5,7 @@ use lib.ListN.{length, length-set}
 use native.Mathlib.Omega.{arith}
 use borrow.Author.Needs.{needs}
 use Rattle.transcript.proofs.Place.{place-within}
-use Rattle.batch_text.specs.Reply.{mostRoom, mostText}
+use Rattle.batch_text.specs.Reply.{mostText}
 use Rattle.batch_text.proofs.Replied.{lent-full, replied}
 use Rattle.batch_text.proofs.reply.Statement.{statement}
 use Rattle.batch_text.proofs.reply.Tie as tie
