@@ -1,23 +1,28 @@
-//! Feeds the proved panel random, damaged and good sheets for a number of seconds.
+//! Feeds the proved panel and the proved reader of texts random, damaged and good input for a number
+//! of seconds, half of them each.
 //!
 //!     fuzz SECONDS [SEED [FILE]]
-//!     fuzz show NUMBER SEED          one input, in hex and in words
+//!     fuzz show NUMBER SEED          one input: a sheet in hex and in words, a text by its lines
 //!
-//! The sheet lies in memory that can't be written, and both sheet and answer room end where a page
+//! The sheet or text lies in memory that can't be written, and both it and the room end where a page
 //! that can't be touched begins. So a read or write past the end of either, and any write to the
-//! sheet, stops the program; the file then has the number of the input, in eight bytes. Bytes
-//! before the room (back to its page's start) and past the record are compared afterwards. A read
-//! before the sheet or the room isn't noticed.
+//! input, stops the program; the file then has the number of the input, in eight bytes. Bytes
+//! before the room (back to its page's start) and past what is written are compared afterwards. A
+//! read before the input or the room isn't noticed.
 //!
-//! Number, place and list are held to the independent panel's, and values to what they mean. A
-//! call that isn't back within a minute is reported with its input. It fails too if it tried
-//! nothing, or if in five seconds or more no sheet held, none clashed or none was refused.
+//! Number, place and list are held to the independent panel's, and values to what they mean; of a
+//! text number, place and every byte of the room to the independent reader's. A call that isn't back
+//! within a minute is reported with its input. It fails too if it tried nothing, or if in five
+//! seconds or more no sheet held, none clashed or none was refused, or no text was read or refused
+//! by one of its numbers.
 
 use second::random::families::FAMILIES;
 use second::random::sheet::state_length;
+use second::random::texts::{LONGEST, TEXTS};
 use second::random::words::{hex, words};
 use second::random::Random;
 use second::sheet::ROOM;
+use second::text::{Reader, ROOM as SHEET_ROOM};
 use second::{meaning, Panel};
 use std::ffi::c_void;
 use std::fs::OpenOptions;
@@ -51,37 +56,60 @@ fn main() {
     watch(seed, asked);
     let start = Instant::now();
     let mut tried = Tried::new();
-    let mut counts = [0u64; 3];
-    for number in 0.. {
-        if start.elapsed().as_secs() >= seconds {
-            break;
-        }
+    let mut counts = Counts::default();
+    // Even numbers are sheets and odd ones texts. The side with less time so far is next.
+    let (mut next, mut spent) = ([0, 1], [Duration::ZERO; 2]);
+    while start.elapsed().as_secs() < seconds {
+        let side = usize::from(spent[1] < spent[0]);
+        let (number, began) = (next[side], Instant::now());
         asked.store(number, Relaxed);
-        let (sheet, room) = input(seed, number);
-        match tried.judge(&sheet, room) {
-            Ok(answer) => counts[answer.min(2)] += 1,
-            Err(fault) => {
-                show(seed, number, &format!(": {fault}"));
-                exit(1);
-            }
+        if let Err(fault) = tried.try_one(&input(seed, number), &mut counts) {
+            show(seed, number, &format!(": {fault}"));
+            exit(1);
         }
+        next[side] += 2;
+        spent[side] += began.elapsed();
     }
-    let [holds, clashes, refused] = counts;
-    let all: u64 = counts.iter().sum();
     // A run that shows little or nothing, whatever the panel.
-    if all == 0 || seconds >= LONG && counts.contains(&0) {
-        eprintln!(
-            "fuzz: too little was tried: {all} inputs, of which {holds} hold, {clashes} clash and \
-             {refused} are refused"
-        );
+    let few = |counts: &[u64]| {
+        counts.iter().all(|&count| count == 0) || seconds >= LONG && counts.contains(&0)
+    };
+    if few(&counts.sheets) || few(&counts.texts) {
+        eprintln!("fuzz: too little was tried: {}", counts.words());
         exit(1);
     }
     println!(
-        "fuzz: {all} inputs in {} s (seed {seed}): {holds} hold, {clashes} clash, {refused} refused; \
-         none changes the sheet, writes past the record, is answered differently by the independent \
-         panel, or fails to come back",
-        start.elapsed().as_secs()
+        "fuzz: {} s (seed {seed}): {}; none changes the sheet or text, writes past the record or \
+         sheet, is answered differently by the independent panel or reader, or fails to come back",
+        start.elapsed().as_secs(),
+        counts.words()
     );
+}
+
+#[derive(Default)]
+struct Counts {
+    /// That hold, that clash, and that are refused.
+    sheets: [u64; 3],
+    /// That are read, and that are refused by 20 to 24.
+    texts: [u64; 6],
+}
+
+impl Counts {
+    fn words(&self) -> String {
+        let [holds, clashes, refused] = self.sheets;
+        let [read, by_number @ ..] = self.texts;
+        let by_number = (20..).zip(by_number);
+        let by_number: Vec<String> = by_number
+            .map(|(number, count)| format!("{count} by {number}"))
+            .collect();
+        format!(
+            "{} sheets, of which {holds} hold, {clashes} clash and {refused} are refused; {} texts, \
+             of which {read} are read and refused {}",
+            self.sheets.iter().sum::<u64>(),
+            self.texts.iter().sum::<u64>(),
+            by_number.join(", ")
+        )
+    }
 }
 
 fn whole(arg: &str) -> u64 {
@@ -112,8 +140,21 @@ fn kept(file: Option<&str>) -> &'static AtomicU64 {
     unsafe { &*map(ptr::null_mut(), PAGE, READ | WRITE, how, of).cast::<AtomicU64>() }
 }
 
-/// The bytes and the answer room of one input, always the same.
-fn input(seed: u64, number: u64) -> (Vec<u8>, usize) {
+/// The bytes of one input, and how many its room has.
+enum Input {
+    Sheet(Vec<u8>, usize),
+    Text(Vec<u8>, usize),
+}
+
+/// The input of a number, always the same.
+fn input(seed: u64, number: u64) -> Input {
+    match number % 2 {
+        0 => sheet(seed, number / 2),
+        _ => text(seed, number / 2),
+    }
+}
+
+fn sheet(seed: u64, number: u64) -> Input {
     let random = &mut Random::of(seed, "fuzz", number);
     let family = &FAMILIES[random.below(FAMILIES.len())];
     let mut sheet = family.sheet(seed, number);
@@ -138,12 +179,46 @@ fn input(seed: u64, number: u64) -> (Vec<u8>, usize) {
             tame(&mut sheet, t, random);
         }
     }
-    let room = match random.below(8) {
-        0 => random.below(ROOM),
-        1 => ROOM + random.below(600),
-        _ => ROOM,
-    };
-    (sheet, room)
+    let room = some_room(ROOM, random);
+    Input::Sheet(sheet, room)
+}
+
+/// Mostly what is needed, and else less or more.
+fn some_room(needed: usize, random: &mut Random) -> usize {
+    match random.below(8) {
+        0 => random.below(needed),
+        1 => needed + random.below(600),
+        _ => needed,
+    }
+}
+
+fn text(seed: u64, number: u64) -> Input {
+    let random = &mut Random::of(seed, "fuzz texts", number);
+    let mut text = TEXTS[random.below(TEXTS.len())].text(seed, number);
+    match random.below(4) {
+        0 | 1 => {}
+        2 => mistype(&mut text, random),
+        _ => {
+            mistype(&mut text, random);
+            text.truncate(random.below(text.len() + 1));
+        }
+    }
+    let room = some_room(SHEET_ROOM, random);
+    Input::Text(text, room)
+}
+
+/// Other bytes in a few places; those from elsewhere in the text often leave it one.
+fn mistype(text: &mut [u8], random: &mut Random) {
+    for _ in 0..1 + random.below(4) {
+        if !text.is_empty() {
+            let at = random.below(text.len());
+            text[at] = match random.below(4) {
+                0 => text[at] ^ 1 << random.below(8),
+                1 => random.below(256) as u8,
+                _ => text[random.below(text.len())],
+            };
+        }
+    }
 }
 
 /// Other bytes in a few places.
@@ -196,45 +271,111 @@ fn tame(sheet: &mut [u8], t: usize, random: &mut Random) {
     }
 }
 
-/// The proved panel with the memory that its calls are lent, and the independent one.
-struct Tried {
-    /// One page seen twice: written here, and lent from where it can only be read.
+/// The memory that calls are lent.
+struct Memory {
+    /// The same pages seen twice: written here, and lent from where they can only be read.
     written: *mut u8,
     lent: *const u8,
     room: *mut u8,
+}
+
+/// Enough pages for every sheet and text.
+const INPUT: usize = LONGEST;
+
+impl Memory {
+    fn new() -> Memory {
+        // SAFETY: maps fresh pages, and keeps no other reference to them.
+        unsafe {
+            let file = memfd_create(b"input\0".as_ptr().cast(), 0);
+            assert!(file >= 0 && ftruncate(file, INPUT as c_long) == 0);
+            Memory {
+                written: map(ptr::null_mut(), INPUT, READ | WRITE, SHARED, file),
+                lent: before_a_wall(INPUT, |at| map(at, INPUT, READ, SHARED | FIXED, file)),
+                room: before_a_wall(PAGE, |at| {
+                    map(at, PAGE, READ | WRITE, PRIVATE | FIXED | NO_FILE, -1)
+                }),
+            }
+        }
+    }
+
+    /// The input as it is lent, and the room's page, untouched.
+    fn lend(&mut self, input: &[u8]) -> (&[u8], &mut [u8]) {
+        let at = INPUT - input.len();
+        // SAFETY: both parts lie within their pages, the room can be written, and nothing else
+        // refers to either while they are used.
+        let (lent, page) = unsafe {
+            slice::from_raw_parts_mut(self.written.add(at), input.len()).copy_from_slice(input);
+            (
+                slice::from_raw_parts(self.lent.add(at), input.len()),
+                slice::from_raw_parts_mut(self.room, PAGE),
+            )
+        };
+        page.fill(UNTOUCHED);
+        (lent, page)
+    }
+}
+
+/// The proved panel and reader in that memory, beside the independent ones.
+struct Tried {
+    memory: Memory,
     second: Panel,
+    reader: Reader,
 }
 
 impl Tried {
     fn new() -> Tried {
-        // SAFETY: maps fresh pages, and keeps no other reference to them.
-        unsafe {
-            let file = memfd_create(b"sheet\0".as_ptr().cast(), 0);
-            assert!(file >= 0 && ftruncate(file, PAGE as c_long) == 0);
-            Tried {
-                written: map(ptr::null_mut(), PAGE, READ | WRITE, SHARED, file),
-                lent: before_a_wall(|at| map(at, PAGE, READ, SHARED | FIXED, file)),
-                room: before_a_wall(|at| {
-                    map(at, PAGE, READ | WRITE, PRIVATE | FIXED | NO_FILE, -1)
-                }),
-                second: Panel::new(),
+        Tried {
+            memory: Memory::new(),
+            second: Panel::new(),
+            reader: Reader::new(),
+        }
+    }
+
+    /// Counts the answer, or says what is wrong with it.
+    fn try_one(&mut self, input: &Input, counts: &mut Counts) -> Result<(), String> {
+        match input {
+            Input::Sheet(sheet, room) => {
+                let number = self.judge(sheet, *room)?;
+                counts.sheets[number.min(2)] += 1;
             }
+            Input::Text(text, room) => {
+                let number = self.read(text, *room)?;
+                counts.texts[number.saturating_sub(19)] += 1;
+            }
+        }
+        Ok(())
+    }
+
+    /// The answer's number, or what is wrong with the answer.
+    fn read(&mut self, text: &[u8], room: usize) -> Result<usize, String> {
+        let (lent, page) = self.memory.lend(text);
+        let mut expected = vec![UNTOUCHED; room];
+        let right = self.reader.read(text, &mut expected);
+        let (before, room) = page.split_at_mut(PAGE - room);
+        let got = bench::transcribe(lent, room);
+        if got != right {
+            return Err(format!(
+                "answered {got:?}, where the independent reader has {right:?}"
+            ));
+        }
+        if lent != text {
+            return Err("the text was changed".to_string());
+        }
+        if before.iter().any(|&byte| byte != UNTOUCHED) {
+            return Err("bytes before the room were changed".to_string());
+        }
+        match room.iter().zip(&expected).position(|(a, b)| a != b) {
+            Some(at) => Err(format!(
+                "byte {at} of the room is {}, where the independent reader has {}",
+                room[at], expected[at]
+            )),
+            None => Ok(usize::from(got.0)),
         }
     }
 
     /// The answer's number, or what is wrong with the answer.
     fn judge(&mut self, sheet: &[u8], room: usize) -> Result<usize, String> {
-        let at = PAGE - sheet.len();
-        // SAFETY: both parts lie within their pages, the room can be written, and nothing else
-        // refers to either while they are used.
-        let (lent, page) = unsafe {
-            slice::from_raw_parts_mut(self.written.add(at), sheet.len()).copy_from_slice(sheet);
-            (
-                slice::from_raw_parts(self.lent.add(at), sheet.len()),
-                slice::from_raw_parts_mut(self.room, PAGE),
-            )
-        };
-        page.fill(UNTOUCHED);
+        let (lent, page) = self.memory.lend(sheet);
         let mut expected = vec![UNTOUCHED; room];
         let right = self.second.judge(sheet, &mut expected);
         let (before, room) = page.split_at_mut(PAGE - room);
@@ -278,9 +419,16 @@ impl Tried {
 }
 
 fn show(seed: u64, number: u64, fault: &str) {
-    let (sheet, room) = input(seed, number);
-    println!("input {number} of seed {seed}, with a room of {room} bytes{fault}");
-    for line in hex(&sheet).into_iter().chain(words(&sheet)) {
+    let (what, room, lines) = match input(seed, number) {
+        Input::Sheet(sheet, room) => ("a sheet", room, [hex(&sheet), words(&sheet)].concat()),
+        Input::Text(text, room) => {
+            let lines = text.split_inclusive(|&byte| byte == b'\n');
+            let lines = lines.map(|line| line.escape_ascii().to_string());
+            ("a text", room, lines.collect())
+        }
+    };
+    println!("input {number} of seed {seed}, {what} with a room of {room} bytes{fault}");
+    for line in lines {
         println!("  {line}");
     }
 }
@@ -296,9 +444,9 @@ fn watch(seed: u64, asked: &'static AtomicU64) {
     });
 }
 
-/// A page with one behind it that can't be touched.
-unsafe fn before_a_wall(mapped: impl Fn(*mut c_void) -> *mut u8) -> *mut u8 {
-    let both = map(ptr::null_mut(), 2 * PAGE, 0, PRIVATE | NO_FILE, -1);
+/// Pages with one behind them that can't be touched.
+unsafe fn before_a_wall(size: usize, mapped: impl Fn(*mut c_void) -> *mut u8) -> *mut u8 {
+    let both = map(ptr::null_mut(), size + PAGE, 0, PRIVATE | NO_FILE, -1);
     mapped(both.cast())
 }
 

@@ -1,0 +1,30 @@
+//! What the timer and the fuzzer share: the archive's call for texts.
+
+#[cfg(feature = "panel")]
+pub use archive::transcribe;
+
+#[cfg(feature = "panel")]
+mod archive {
+    // for the archive that it links
+    use baruvkesh as _;
+
+    extern "C" {
+        fn baruvkesh_transcribe(
+            text: *const u8,
+            text_len: usize,
+            room: *mut u8,
+            room_len: usize,
+        ) -> u64;
+    }
+
+    /// The proved reader: the number and the place of its answer, and the sheet in the room.
+    pub fn transcribe(text: &[u8], room: &mut [u8]) -> (u8, u32) {
+        // SAFETY: the function has no precondition but two slices that don't overlap, and these are.
+        let answer = unsafe {
+            baruvkesh_transcribe(text.as_ptr(), text.len(), room.as_mut_ptr(), room.len())
+        };
+        // a number of more than a byte mustn't pass for another
+        let number = u8::try_from(answer >> 32).expect("the contract has no such number");
+        (number, answer as u32)
+    }
+}
