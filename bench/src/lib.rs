@@ -1,4 +1,7 @@
-//! What the timer and the fuzzer share: the archive's call for texts.
+//! What the timer and the fuzzer share: the archive's call for texts, and a quick reader to time it
+//! against.
+
+pub mod quick;
 
 #[cfg(feature = "panel")]
 pub use archive::transcribe;

@@ -1,21 +1,37 @@
-//! Times the proved panel and the independent one on the same sheets, turn by turn.
+//! Times the proved panel and the independent one on the same sheets, turn by turn; and readers of
+//! texts: the proved one, the independent one and a quick one.
 //!
-//!     time          a line for each sheet: what it is, nanoseconds of both (- for a panel that isn't built in)
+//!     time          a line for each sheet and text: what it is, nanoseconds of each (- for one that isn't built in)
+//!     time texts    the same for texts alone
 //!     time smt      the same sheets as questions to an SMT solver, each after a line that says what it is
 //!
 //! A verdict is a call on a sheet that holds, and so makes no list; a first list is a call on one
-//! that clashes.
+//! that clashes. A reading is a call on a text that is one, and its size the text's bytes.
 
+use bench::quick;
 use second::random::sheet::{Kind, Sheet, Term, TermRecord};
+use second::random::texts::TEXTS;
 use second::random::Random;
 use second::sheet::ROOM;
+use second::text::{Reader, ROOM as SHEET_ROOM};
 use second::Panel;
+use std::fmt::Write;
 use std::time::{Duration, Instant};
 
 const SIZES: [usize; 3] = [16, 32, 64];
 
 fn main() {
-    let smt = std::env::args().nth(1).as_deref() == Some("smt");
+    match std::env::args().nth(1).as_deref() {
+        Some("texts") => texts(),
+        Some("smt") => sheets(true),
+        _ => {
+            sheets(false);
+            texts();
+        }
+    }
+}
+
+fn sheets(smt: bool) {
     for &size in &SIZES {
         for (family, make) in FAMILIES {
             for holds in [true, false] {
@@ -180,10 +196,11 @@ fn time(name: &str, sheet: &[u8]) {
     let right = second.judge(sheet, &mut room);
     compare(name, sheet, right, &room);
     let independent = || second.judge(sheet, &mut room).1;
-    let (ours, theirs) = side_by_side(proved(sheet), independent, right.1);
-    let ours = ours.map_or("-".to_string(), |nanoseconds| nanoseconds.to_string());
-    println!("{name}\t{ours}\t{theirs}");
+    side_by_side(name, [proved(sheet), Some(Box::new(independent))], right.1);
 }
+
+/// One side: a call of it gives the place.
+type Side<'a> = Option<Box<dyn FnMut() -> u16 + 'a>>;
 
 /// Stops where the proved panel says something else than the independent one, with this number,
 /// place and room: times of different answers couldn't be compared. Values are free, so of those
@@ -208,32 +225,35 @@ fn compare(name: &str, sheet: &[u8], right: (u8, u16), room: &[u8]) {
 #[cfg(not(feature = "panel"))]
 fn compare(_: &str, _: &[u8], _: (u8, u16), _: &[u8]) {}
 
-/// Calls of the proved panel, each of which gives the place.
+/// Calls of the proved panel.
 #[cfg(feature = "panel")]
-fn proved(sheet: &[u8]) -> Option<impl FnMut() -> u16 + '_> {
+fn proved(sheet: &[u8]) -> Side {
     let mut room = [0; ROOM];
-    Some(move || baruvkesh::judge(sheet, &mut room).place() as u16)
+    Some(Box::new(move || {
+        baruvkesh::judge(sheet, &mut room).place() as u16
+    }))
 }
 
 #[cfg(not(feature = "panel"))]
-fn proved(_: &[u8]) -> Option<fn() -> u16> {
+fn proved(_: &[u8]) -> Side {
     None
 }
 
-/// The least time of a call over many turns, which go from one side to the other.
-fn side_by_side(
-    mut ours: Option<impl FnMut() -> u16>,
-    mut theirs: impl FnMut() -> u16,
-    place: u16,
-) -> (Option<u64>, u64) {
-    let (mut our_least, mut their_least) = (u64::MAX, u64::MAX);
+/// Prints the least time of a call of each over many turns, which go from one side to the next.
+fn side_by_side<const SIDES: usize>(name: &str, mut sides: [Side; SIDES], place: u16) {
+    let mut least = [u64::MAX; SIDES];
     for _ in 0..15 {
-        if let Some(ours) = &mut ours {
-            our_least = our_least.min(per_call(ours, place));
+        for (side, least) in sides.iter_mut().zip(&mut least) {
+            if let Some(call) = side {
+                *least = per_call(call, place).min(*least);
+            }
         }
-        their_least = their_least.min(per_call(&mut theirs, place));
     }
-    (ours.map(|_| our_least), their_least)
+    let times = sides.iter().zip(least).map(|(side, least)| match side {
+        Some(_) => format!("\t{least}"),
+        None => "\t-".to_string(),
+    });
+    println!("{name}{}", times.collect::<String>());
 }
 
 /// Nanoseconds of a call, over as many as take a few milliseconds. The places are added up and
@@ -241,11 +261,14 @@ fn side_by_side(
 fn per_call(call: &mut dyn FnMut() -> u16, place: u16) -> u64 {
     let start = Instant::now();
     let (mut calls, mut places) = (0, 0);
+    // looking at the clock takes time too, and a slow call is enough by itself
+    let mut turn = 1;
     while start.elapsed() < Duration::from_millis(4) {
-        for _ in 0..16 {
+        for _ in 0..turn {
             places += u64::from(call());
         }
-        calls += 16;
+        calls += turn;
+        turn = 16.min(2 * turn);
     }
     let time = start.elapsed();
     assert_eq!(
@@ -254,6 +277,117 @@ fn per_call(call: &mut dyn FnMut() -> u16, place: u16) -> u64 {
         "a call answered differently"
     );
     time.as_nanos() as u64 / calls
+}
+
+fn texts() {
+    agree();
+    for (name, make) in TYPED {
+        let text = make();
+        read(&format!("{name} {} reading", text.len()), text.as_bytes());
+    }
+}
+
+/// Texts that readers are timed on. Figures look for "64 lines" in the name.
+const TYPED: [(&str, fn() -> String); 6] = [
+    ("three lines", || {
+        "x0<=x1\nx1<=x0\nf7(x0)!=f7(x1)\n".to_string()
+    }),
+    ("64 lines of bounds, 64 terms", || bounds(16, 3)),
+    ("64 lines of bounds, 16 terms", || bounds(8, 1)),
+    ("64 lines of towers, 6 deep", || towers(6)),
+    ("64 lines of towers, 16 deep", || towers(16)),
+    ("a tree, long", tree),
+];
+
+/// Each unknown at most another, shifted; there are so many of them, and so many shifts of each.
+fn bounds(unknowns: usize, shifts: usize) -> String {
+    let mut text = String::new();
+    for line in 0..64 {
+        let (i, j, shift) = (
+            line % unknowns,
+            (5 * line + 3) % unknowns,
+            line / unknowns % shifts,
+        );
+        let k = 100 * j as i64 - 37 * shift as i64 - 400;
+        writeln!(text, "x{}<=x{}{k:+}", 6 * i, 6 * j).unwrap();
+    }
+    text
+}
+
+/// Towers of applications over two unknowns, of every height.
+fn towers(deepest: usize) -> String {
+    let tower = |floors, mut term: String| {
+        for floor in 0..floors {
+            term = match floor % 3 {
+                2 => format!("f130({term},x1)"),
+                _ => format!("f7({term})"),
+            };
+        }
+        term
+    };
+    let mut text = String::new();
+    for line in 0..64 {
+        let (low, high) = (tower(line % deepest, "x0".to_string()), 1 + line % deepest);
+        let high = tower(high, format!("x{}", line % 2));
+        writeln!(text, "{low}<{high}").unwrap();
+    }
+    text
+}
+
+/// A term that has itself twice, again and again: few terms in many bytes.
+fn tree() -> String {
+    let (mut term, mut text) = ("x0".to_string(), String::new());
+    for symbol in 0..12 {
+        term = format!("f{symbol}({term},{term})");
+        if symbol >= 9 {
+            writeln!(text, "{term}<=x1").unwrap();
+        }
+    }
+    assert!(text.len() >= 30_000);
+    text
+}
+
+fn read(name: &str, text: &[u8]) {
+    let mut right_room = [0; SHEET_ROOM];
+    let right = Reader::new().read(text, &mut right_room);
+    assert_eq!(right.0, 0, "{name}");
+    let [mut proved_room, mut clear_room, mut quick_room] = [[0; SHEET_ROOM]; 3];
+    let clear = || Reader::new().read(text, &mut clear_room).1 as u16;
+    let quick = || quick::read(text, &mut quick_room).1 as u16;
+    let sides = [
+        transcribing(text, &mut proved_room),
+        Some(Box::new(clear)),
+        Some(Box::new(quick)),
+    ];
+    side_by_side(name, sides, right.1 as u16);
+    // what was timed was all written, and is the same
+    let proved = !cfg!(feature = "panel") || proved_room == right_room;
+    assert!(proved, "{name}: the proved reader's sheet is another");
+    assert!(clear_room == right_room && quick_room == right_room);
+}
+
+/// Calls of the proved reader.
+#[cfg(feature = "panel")]
+fn transcribing<'a>(text: &'a [u8], room: &'a mut [u8]) -> Side<'a> {
+    Some(Box::new(move || bench::transcribe(text, room).1 as u16))
+}
+
+#[cfg(not(feature = "panel"))]
+fn transcribing<'a>(_: &'a [u8], _: &'a mut [u8]) -> Side<'a> {
+    None
+}
+
+/// Stops where the quick reader isn't one: leaving something out would make it quicker.
+fn agree() {
+    for family in &TEXTS {
+        for number in 0..100 {
+            let text = family.text(1, number);
+            let [mut room, mut right_room] = [[0; SHEET_ROOM]; 2];
+            let right = Reader::new().read(&text, &mut right_room);
+            let same = quick::read(&text, &mut room) == right && room == right_room;
+            assert!(same, "the quick reader differs: {}", text.escape_ascii());
+        }
+    }
 }
 
 /// The sheet for an SMT solver, in SMT-LIB 2: the question for all entries, and for a list the one
