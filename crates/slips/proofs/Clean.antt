@@ -9,6 +9,7 @@ use native.Mathlib.Omega.{arith}
 use native.Mathlib.Decide.{decLt}
 use Rattle.sheet.specs.Limits.{maxTerms, maxEntries}
 use Rattle.sheet.specs.Sheet.Relation.{equal, unequal, atMost, less}
+use Rattle.text.specs.Text.{Term, Line}
 use Rattle.text.specs.Print.{Fault}
 use Rattle.text.specs.Print.Fault.{byte, early}
 use Rattle.text.specs.Typed.{Context, Use, State, value, Alive}
@@ -31,51 +32,30 @@ upto-at {s = s} u = sym (reached s (u .alive) .ran) ∙ ap (run start) (u .looks
 at-upto : (bs : List ℕ) (p : ℕ) → p < length bs → Alive (at bs (suc p)) → Upto bs p (at bs (suc p))
 at-upto bs p h a = record { within = h; alive = a; looks = run-shown start (take (suc p) bs) a }
 
--- states that look the same have the same depth, lines and terms
+-- what doesn't tell the two states behind a < apart, doesn't tell apart states that look the same
+one-as : {A : Type 0} (f : State → A) → ((ls : List Line) (t : Term) → f (under ls t) ≡ f (wants (onRight ls t less))) → (s : State) → f (one s) ≡ f s
+one-as f h stopped = refl
+one-as f h (wants (onLeft ls)) = refl
+one-as f h (wants (onRight ls t equal)) = refl
+one-as f h (wants (onRight ls t unequal)) = refl
+one-as f h (wants (onRight ls t atMost)) = refl
+one-as f h (wants (onRight ls t less)) = h ls t
+one-as f h (wants (argument g C)) = refl
+one-as f h (wants (second g t C)) = refl
+one-as f h (due C L) = refl
+one-as f h (digits C K n) = refl
+one-as f h (closed C g ts) = refl
+one-as f h (bang ls t) = refl
+one-as f h (under ls t) = refl
+
 one-depth : (s : State) → depth (one s) ≡ depth s
-one-depth stopped = refl
-one-depth (wants (onLeft ls)) = refl
-one-depth (wants (onRight ls t equal)) = refl
-one-depth (wants (onRight ls t unequal)) = refl
-one-depth (wants (onRight ls t atMost)) = refl
-one-depth (wants (onRight ls t less)) = refl
-one-depth (wants (argument f C)) = refl
-one-depth (wants (second f t C)) = refl
-one-depth (due C L) = refl
-one-depth (digits C K n) = refl
-one-depth (closed C f ts) = refl
-one-depth (bang ls t) = refl
-one-depth (under ls t) = refl
+one-depth = one-as depth (λ ls t. refl)
 
 one-begun : (s : State) → begun (one s) ≡ begun s
-one-begun stopped = refl
-one-begun (wants (onLeft ls)) = refl
-one-begun (wants (onRight ls t equal)) = refl
-one-begun (wants (onRight ls t unequal)) = refl
-one-begun (wants (onRight ls t atMost)) = refl
-one-begun (wants (onRight ls t less)) = refl
-one-begun (wants (argument f C)) = refl
-one-begun (wants (second f t C)) = refl
-one-begun (due C L) = refl
-one-begun (digits C K n) = refl
-one-begun (closed C f ts) = refl
-one-begun (bang ls t) = refl
-one-begun (under ls t) = refl
+one-begun = one-as begun (λ ls t. refl)
 
 one-completed : (more : Bool) (s : State) → completed more (one s) ≡ completed more s
-one-completed more stopped = refl
-one-completed more (wants (onLeft ls)) = refl
-one-completed more (wants (onRight ls t equal)) = refl
-one-completed more (wants (onRight ls t unequal)) = refl
-one-completed more (wants (onRight ls t atMost)) = refl
-one-completed more (wants (onRight ls t less)) = refl
-one-completed more (wants (argument f C)) = refl
-one-completed more (wants (second f t C)) = refl
-one-completed more (due C L) = refl
-one-completed more (digits C K n) = refl
-one-completed more (closed C f ts) = refl
-one-completed more (bang ls t) = refl
-one-completed more (under ls t) = refl
+one-completed more = one-as (completed more) (λ ls t. refl)
 
 -- a number that isn't over its limit
 abbrev pub InRange : State → Type 0

@@ -1,1 +1,2 @@
 pub mod Clean
+mod Examples
