@@ -10,11 +10,15 @@
 extern "C" {
 #endif
 
-/* The length of the longest sheet, 6 + 6 * 64 + 6 * 64. */
-#define BARUVKESH_LONGEST_SHEET 774
+/* The most terms of a sheet, and the most entries. */
+#define BARUVKESH_MAX_TERMS 128
+#define BARUVKESH_MAX_ENTRIES 128
 
-/* The length of an answer room that is enough for every sheet, 8 + 8 * 64. */
-#define BARUVKESH_ROOM_NEEDED 520
+/* The length of the longest sheet, 1542. */
+#define BARUVKESH_LONGEST_SHEET (6 + 6 * BARUVKESH_MAX_TERMS + 6 * BARUVKESH_MAX_ENTRIES)
+
+/* The length of an answer room that is enough for every sheet, 1032. */
+#define BARUVKESH_ROOM_NEEDED (8 + 8 * BARUVKESH_MAX_TERMS)
 
 /* Judges the sheet, and answers number * 65536 + place. A sheet is the bytes of document 01: T terms (unknowns, numbers, shifts,
  * applications of unknown functions) and L entries (=, !=, <=, <) over rational levels. It holds exactly when values exist that meet every
@@ -25,13 +29,13 @@ extern "C" {
  *   1       the sheet clashes                                                length of the answer record
  *   10      fewer than 6 bytes lent, or bytes 0-1 don't state that length    0
  *   11      version isn't 1                                                  0
- *   12      T is 0 or over 64, L over 64, byte 5 not 0, or the length
+ *   12      T is 0 or over 128, L over 128, byte 5 not 0, or the length
  *           isn't 6 + 6T + 6L                                                0
  *   13      a term has kind over 4, a non-zero unused field, or an
  *           argument not below its own number                                lowest such term
  *   14      an entry has kind over 3, a non-zero second byte, or a or b
  *           not below T                                                      lowest such entry
- *   15      room_len under 520                                               0
+ *   15      room_len under 1032                                              0
  *
  * 10 to 15 are checked in that order, and the first that applies is given. With them the whole room keeps what it held. With 0 and 1
  * the room starts with the answer record, and the bytes past its length keep what they held:
@@ -50,7 +54,7 @@ extern "C" {
  *
  * Numbers of several bytes are big-endian. The sheet is never written. Any bytes and any two lengths are allowed; with a length of 0
  * the pointer isn't followed and may be NULL. The sheet and the room may not overlap. The call keeps nothing between calls and asks for
- * no memory but the stack's, under 64 KB, so threads may call it at the same time, each with a room of its own. */
+ * no memory but the stack's, under 100 KB, so threads may call it at the same time, each with a room of its own. */
 uint32_t baruvkesh_judge(const uint8_t *sheet, size_t sheet_len, uint8_t *room, size_t room_len);
 
 /* The two halves of what baruvkesh_judge answers. */
@@ -69,8 +73,8 @@ static inline size_t baruvkesh_place(uint32_t answer) { return answer & 0xFFFF; 
  *   20      no text of this form begins so, or the text ends too early       that byte, or text_len
  *   21      an opening bracket goes deeper than 16                           that byte
  *   22      a number is out of range                                         the first digit that takes it there
- *   23      a 65th term, or a 65th line                                      the term's last byte, or the line's first
- *   24      room_len under 774                                               0
+ *   23      a 129th term, or a 129th line                                    the term's last byte, or the line's first
+ *   24      room_len under 1542                                              0
  *
  * 24 is checked first; of the others the one at the earliest byte is given, the lowest number first at one byte. With 20 to 24 the whole
  * room keeps what it held. With 0 the room starts with the text's sheet, as baruvkesh_judge takes it, and the bytes past its length keep

@@ -34,11 +34,17 @@
 #[cfg(not(all(target_arch = "x86_64", target_os = "linux")))]
 compile_error!("the proved archive is x86-64 Linux code");
 
-/// Length of an answer room that is enough for every sheet.
-pub const ROOM_NEEDED: usize = 520;
+/// The most terms of a sheet.
+pub const MAX_TERMS: usize = 128;
 
-/// Length of a room that is enough for the sheet of every text.
-pub const SHEET_ROOM: usize = 774;
+/// The most entries of a sheet.
+pub const MAX_ENTRIES: usize = 128;
+
+/// Length of an answer room that is enough for every sheet: 1,032.
+pub const ROOM_NEEDED: usize = 8 + 8 * MAX_TERMS;
+
+/// Length of a room that is enough for the sheet of every text: 1,542.
+pub const SHEET_ROOM: usize = 6 + 6 * MAX_TERMS + 6 * MAX_ENTRIES;
 
 /// The number of a term. It is never taken for an entry's.
 #[derive(Clone, Copy, Debug, PartialEq, Eq, PartialOrd, Ord)]
@@ -74,7 +80,7 @@ pub enum Refusal {
     Length,
     /// 11: version isn't 1.
     Version,
-    /// 12: T is 0 or over 64, L over 64, byte 5 not 0, or length not 6 + 6T + 6L.
+    /// 12: T is 0 or over [`MAX_TERMS`], L over [`MAX_ENTRIES`], byte 5 not 0, or length not 6 + 6T + 6L.
     Shape,
     /// 13: this term is the lowest with kind over 4, a non-zero unused field, or an argument not below its own number.
     WrongTerm(TermNumber),
@@ -105,7 +111,7 @@ pub enum Slip {
     Deep(usize),
     /// 22: the first digit that takes a number out of range.
     Range(usize),
-    /// 23: the last byte of a 65th term, or the first of a 65th line.
+    /// 23: the last byte of a 129th term, or the first of a 129th line.
     Full(usize),
     /// 24: room under [`SHEET_ROOM`] bytes.
     Room,

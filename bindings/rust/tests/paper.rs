@@ -1,5 +1,7 @@
 //! The paper's sheets, rooms and bytes, through the safe call.
-use baruvkesh::{judge, Answer, EntryNumber, Refusal, TermNumber, Values, ROOM_NEEDED};
+use baruvkesh::{
+    judge, Answer, EntryNumber, Refusal, TermNumber, Values, MAX_ENTRIES, ROOM_NEEDED, SHEET_ROOM,
+};
 use std::{fs, thread};
 
 // x ≤ y, y ≤ x, f(x) ≠ f(y)
@@ -8,7 +10,7 @@ const SHEET_1: &[u8] = include_bytes!("../../../sheets/01.sheet");
 const SHEET_2: &[u8] = include_bytes!("../../../sheets/02.sheet");
 // x < y, y < x + 1
 const SHEET_5: &[u8] = include_bytes!("../../../sheets/05.sheet");
-// 64 unknowns in a circle that clashes
+// 128 unknowns in a circle that clashes
 const SHEET_14B: &[u8] = include_bytes!("../../../sheets/14b.sheet");
 // terms 2 and 3 both wrong, and an entry too
 const WRONG_TERM: &[u8] = include_bytes!("../../../sheets/r13c.sheet");
@@ -71,7 +73,8 @@ fn a_refused_sheet_leaves_the_room() {
 }
 
 #[test]
-fn a_room_of_519_is_refused() {
+fn a_room_of_1031_is_refused() {
+    assert_eq!(ROOM_NEEDED, 1032);
     let mut room = [0xAA; ROOM_NEEDED - 1];
     let answer = judge(SHEET_2, &mut room);
     assert_eq!(answer, Answer::Refused(Refusal::Room));
@@ -92,12 +95,12 @@ fn no_sheet_and_no_room() {
 
 // as the header promises
 #[test]
-fn a_stack_of_64_kb_is_enough() {
+fn a_stack_of_100_kb_is_enough() {
     thread::Builder::new()
-        .stack_size(64 * 1024)
+        .stack_size(100 * 1024)
         .spawn(|| {
             let mut room = [0xAA; ROOM_NEEDED];
-            assert_eq!(judge(SHEET_14B, &mut room).place(), 8 + 64);
+            assert_eq!(judge(SHEET_14B, &mut room).place(), 8 + MAX_ENTRIES);
         })
         .unwrap()
         .join()
@@ -113,7 +116,7 @@ fn every_sheet_as_expected() {
         let name = fields.next().unwrap();
         let mut sheet = fs::read(format!("{sheets}/{name}.sheet")).unwrap();
         // as much as the program reads, for which the lines are
-        sheet.truncate(775);
+        sheet.truncate(SHEET_ROOM + 1);
         let mut room = [0xAA; ROOM_NEEDED];
         let line = match judge(&sheet, &mut room) {
             Answer::Holds(_) => "holds".to_string(),

@@ -45,11 +45,12 @@ fn each_refusal_leaves_the_room() {
     assert_eq!(refused(b"x05=x0\n"), (20, 2));
     assert_eq!(refused(&b"f0(".repeat(17)), (21, 50));
     assert_eq!(refused(b"x0=x100\n"), (22, 6));
-    assert_eq!(refused(&b"x0=x0\n".repeat(65)), (23, 6 * 64));
+    assert_eq!(refused(&b"x0=x0\n".repeat(129)), (23, 6 * 128));
 }
 
 #[test]
-fn a_room_of_773_is_refused_first() {
+fn a_room_of_1541_is_refused_first() {
+    assert_eq!(SHEET_ROOM, 1542);
     for text in [TEXT_1, b""] {
         let mut room = [0xAA; SHEET_ROOM - 1];
         assert_eq!(transcribe(text, &mut room), Typed::Refused(Slip::Room));
@@ -60,11 +61,11 @@ fn a_room_of_773_is_refused_first() {
 
 // as the header promises, at the deepest
 #[test]
-fn a_stack_of_64_kb_is_enough() {
+fn a_stack_of_100_kb_is_enough() {
     let deepest = [b"f0(".repeat(16), b"x0".to_vec(), b")".repeat(16)].concat();
     let text = [&deepest[..], b"=x0\n"].concat();
     thread::Builder::new()
-        .stack_size(64 * 1024)
+        .stack_size(100 * 1024)
         .spawn(move || {
             let mut room = [0xAA; SHEET_ROOM];
             let typed = transcribe(&text, &mut room);

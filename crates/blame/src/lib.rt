@@ -16,30 +16,32 @@ ghost use Rattle.settled.specs.Settled.{points};
 ghost use Rattle.blame.specs.Blamed.{Blamed};
 use verdict::Verdict;
 
-// Writes the first clashing list as the answer record, and answers its length.
-pub fn write(sheet: &[u8], room: &mut [u8]) -> usize
+// Writes the first clashing list as the answer record, and answers its length. The table is the caller's to lend.
+pub fn write(sheet: &[u8], room: &mut [u8], d: &mut [u32]) -> usize
     requires { ⌜ Sized (now sheet) × WellFormed (sheetOf (now sheet)) ⌝ }
-    requires { ⌜ Clashes (sheetOf (now sheet)) every × (headLength + countEntries (sheetOf (now sheet)) ≤ length (now room)) ⌝ }
-    ensures { λ r. ⌜ Blamed (sheetOf (now (sheet .entry))) (now (room .entry)) (now (room .exit)) r ⌝ }
+    requires { ⌜ Clashes (sheetOf (now sheet)) every × (headLength + countEntries (sheetOf (now sheet)) ≤ length (now room)) × (length (now d) ≡ cells) ⌝ }
+    ensures blamed { λ r. ⌜ Blamed (sheetOf (now (sheet .entry))) (now (room .entry)) (now (room .exit)) r ⌝ }
+    ensures kept { λ _. ⌜ Kept (points (sheetOf (now (sheet .entry)))) (now (d .entry)) (now (d .exit)) ⌝ }
 {
     let entries = reading::count_entries(sheet);
     let mut marks = [true; sheet::MAX_ENTRIES];
-    leave_out(sheet, &mut marks);
+    leave_out(sheet, &mut marks, d);
     listing::clashes(room, &marks, entries)
 }
 
 // With every entry marked, takes away the marks of those that aren't needed.
-fn leave_out(sheet: &[u8], marks: &mut [bool])
-    requires { ⌜ Sized (now sheet) × WellFormed (sheetOf (now sheet)) × (countEntries (sheetOf (now sheet)) ≤ length (now marks)) ⌝ }
+fn leave_out(sheet: &[u8], marks: &mut [bool], d: &mut [u32])
+    requires { ⌜ Sized (now sheet) × WellFormed (sheetOf (now sheet)) ⌝ }
+    requires { ⌜ (countEntries (sheetOf (now sheet)) ≤ length (now marks)) × (length (now d) ≡ cells) ⌝ }
     requires { ⌜ Clashes (sheetOf (now sheet)) (marked (now marks)) × ((x : ℕ) → x < countEntries (sheetOf (now sheet)) → marked (now marks) x ≡ true) ⌝ }
-    ensures { λ _. ⌜ FirstClash (sheetOf (now (sheet .entry))) (marked (now (marks .exit))) ⌝ }
+    ensures first { λ _. ⌜ FirstClash (sheetOf (now (sheet .entry))) (marked (now (marks .exit))) ⌝ }
+    ensures kept { λ _. ⌜ Kept (points (sheetOf (now (sheet .entry)))) (now (d .entry)) (now (d .exit)) ⌝ }
 {
-    let mut d = [0u32; table::CELLS];
     let mut r = reading::count_entries(sheet);
     while 0 < r {
         r -= 1;
         marks[r] = false;
-        if !clashes(sheet, marks, &mut d) {
+        if !clashes(sheet, marks, d) {
             marks[r] = true;
         }
     }

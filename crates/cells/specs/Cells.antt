@@ -1,14 +1,15 @@
--- The table in a slice of a literal stride, and what each call leaves of it.
+-- The table in a slice, rows of one length behind each other, and what each call leaves of it.
 -- Assumes nothing.
 use Prim.Native.Nat.{ℕ, _+_, _*_, _≤_, _<_}
 use mathlib.Core.Path.{_≡_}
 use mathlib.Core.List.{List}
 use lib.ListN.{getD}
+use Rattle.sheet.specs.Limits.{maxTerms}
 use Rattle.kind.specs.Code.{none, base, sumOf, tighterOf}
 
 -- the most points: a sheet's terms and the zero level
 abbrev pub stride : ℕ
-stride = 65
+stride = maxTerms + 1
 
 abbrev pub cells : ℕ
 cells = stride * stride

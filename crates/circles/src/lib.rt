@@ -2,7 +2,7 @@
 // It rests on notes' bounds.
 // It promises which circles are ties; what it leaves in the memory is free, as all that the search does.
 ghost use mathlib.Core.Path.{_≡_};
-ghost use Prim.Native.Nat.{_≤_, _<_};
+ghost use Prim.Native.Nat.{_^_, _≤_, _<_};
 ghost use Rattle.notes.specs.Limits.{places};
 ghost use Rattle.notes.specs.Search.{Worked};
 ghost use Rattle.circles.specs.Circle.{isTie};
@@ -23,7 +23,7 @@ const NO_SLACK: usize = WEIGHT * notes::LOOSE;
 // Looks for circles of points, each lowered by the next. The bounds of one that is a tie lose their slacks; false where one isn't, and so
 // leaves no room at all.
 pub fn loosen(m: &mut [usize; MEMORY], n: usize, base: usize) -> bool
-    requires { ⌜ (n ≤ places) × (base ≤ 65536) ⌝ }
+    requires { ⌜ (n ≤ places) × (base < 2 ^ 32) ⌝ }
     ensures { λ _. ⌜ Worked (now (m .entry)) (now (m .exit)) ⌝ }
 {
     let mut i = 0;
@@ -43,7 +43,7 @@ pub fn loosen(m: &mut [usize; MEMORY], n: usize, base: usize) -> bool
 // From point i on until no bound lowered the point, or it is marked: with this walk's mark there is a circle. A point of it, or PLACES.
 // Marks of earlier looks are under the base.
 fn walk(m: &mut [usize; MEMORY], i: usize, base: usize) -> usize
-    requires { ⌜ (i < places) × (base ≤ 65536) ⌝ }
+    requires { ⌜ (i < places) × (base < 2 ^ 32) ⌝ }
     ensures answer { λ r. ⌜ r ≤ places ⌝ }
     ensures worked { λ _. ⌜ Worked (now (m .entry)) (now (m .exit)) ⌝ }
 {

@@ -9,7 +9,7 @@ ghost use Rattle.order.specs.First.{marked};
 ghost use Rattle.sheet.specs.Decode.{Sized, sheetOf};
 ghost use Rattle.sheet.specs.Sheet.{WellFormed, countEntries};
 ghost use Rattle.meets.specs.Met.{Met};
-ghost use Rattle.notes.specs.Limits.{places};
+ghost use Rattle.notes.specs.Limits.{places, denominator};
 ghost use Rattle.notes.specs.Search.{Worked};
 use notes::MEMORY;
 
@@ -22,7 +22,7 @@ pub const PLACES: usize = notes::PLACES;
 pub fn values(sheet: &[u8], set: &[bool], v: &mut [u64; PLACES]) -> bool
     requires { ⌜ Sized (now sheet) × WellFormed (sheetOf (now sheet)) ⌝ }
     requires { ⌜ countEntries (sheetOf (now sheet)) ≤ length (now set) ⌝ }
-    ensures met { λ r. ⌜ (r ≡ true → Met (sheetOf (now (sheet .entry))) (marked (now (set .entry))) 64512 (now (v .exit))) ⌝ }
+    ensures met { λ r. ⌜ (r ≡ true → Met (sheetOf (now (sheet .entry))) (marked (now (set .entry))) denominator (now (v .exit))) ⌝ }
     ensures worked { λ _. ⌜ Worked (now (v .entry)) (now (v .exit)) ⌝ }
 {
     let n = reading::count_terms(sheet) + 1;

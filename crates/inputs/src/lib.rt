@@ -2,7 +2,8 @@
 // It rests on notes' applications and bounds, and on lowering.
 // It promises to stay within the memory lent to it; which are tied is free, as all that the search does.
 ghost use Prim.Native.Nat.{_^_, _≤_, _<_};
-ghost use Rattle.notes.specs.Limits.{places, memory, mostApplications};
+ghost use Rattle.sheet.specs.Limits.{maxTerms};
+ghost use Rattle.notes.specs.Limits.{places, memory};
 ghost use Rattle.notes.specs.Search.{Worked};
 use notes::APPLICATIONS;
 use notes::INPUTS;
@@ -16,7 +17,7 @@ const SPREAD: usize = PLACES - 1;
 
 // Ties applications that have the same input now and aren't level, and answers the place behind the last bound.
 pub fn pass(m: &mut [usize; MEMORY], before: usize, base: usize) -> usize
-    requires { ⌜ (before ≤ memory) × (base ≤ 65536) ⌝ }
+    requires { ⌜ (before ≤ memory) × (base < 2 ^ 32) ⌝ }
     ensures answer { λ r. ⌜ r ≤ memory ⌝ }
     ensures worked { λ _. ⌜ Worked (now (m .entry)) (now (m .exit)) ⌝ }
 {
@@ -35,7 +36,7 @@ pub fn pass(m: &mut [usize; MEMORY], before: usize, base: usize) -> usize
 
 // Puts the k-th application on the shelf of its input, or ties it to the one that stands there.
 fn place(m: &mut [usize; MEMORY], end: usize, base: usize, k: usize, application: usize) -> usize
-    requires { ⌜ (end ≤ memory) × (base ≤ 65536) × (k < mostApplications) ⌝ }
+    requires { ⌜ (end ≤ memory) × (base < 2 ^ 32) × (k < maxTerms) ⌝ }
     ensures answer { λ r. ⌜ r ≤ memory ⌝ }
     ensures worked { λ _. ⌜ Worked (now (m .entry)) (now (m .exit)) ⌝ }
 {

@@ -8,15 +8,16 @@ ghost use lib.ListN.{length};
 ghost use Rattle.sheet.specs.Decode.{Sized, sheetOf};
 ghost use Rattle.sheet.specs.Limits.{maxTerms};
 ghost use Rattle.sheet.specs.Sheet.{WellFormed, countEntries};
-ghost use Rattle.notes.specs.Limits.{memory};
+ghost use Rattle.notes.specs.Limits.{places, memory, slacks};
 ghost use Rattle.notes.specs.Noted.{boundOf, applicationOf};
 ghost use Rattle.notes.specs.Search.{Worked};
 use sheet::EntryNumber;
 use sheet::Fields;
 use sheet::TermNumber;
 
-// Places for points: more than there are, and a power of two, so that what is left of any number below it is a place.
-pub const PLACES: usize = 128;
+// Places for points: more than there are, so that what is left of any number below it is a place, and a power of two as long as the limit
+// of terms is one, so that this is quick.
+pub const PLACES: usize = 2 * sheet::MAX_TERMS;
 
 // The memory is one array. It begins with a level for each point; then come, for each, the place of the bound that lowered it last, the mark
 // of the walk that saw it, and the place of a bound that leads on from it.
@@ -31,19 +32,23 @@ pub const SHELVES: usize = 4 * PLACES;
 
 pub const APPLICATIONS: usize = 5 * PLACES;
 
-pub const INPUTS: usize = APPLICATIONS + PLACES / 2;
+pub const INPUTS: usize = APPLICATIONS + sheet::MAX_TERMS;
 
 // Bounds: two for each term and each entry, since a term without a bound of its own may be tied as an application, once.
-pub const BOUNDS: usize = 6 * PLACES;
+pub const BOUNDS: usize = INPUTS + sheet::MAX_TERMS;
 
-pub const MEMORY: usize = 8 * PLACES;
+pub const MEMORY: usize = BOUNDS + 2 * (sheet::MAX_TERMS + sheet::MAX_ENTRIES);
 
 // Slacks are less than this.
 pub const SLACKS: usize = 1024;
 
-// The denominator: the slacks of all entries together stay below it, so that a circle of bounds with room for a whole number has room for
-// them; and a multiple of SLACKS, so that slack stands apart from c in a bound's weight.
-pub const D: usize = 63 * SLACKS;
+// The denominator: the largest that an answer may have and that is a multiple of SLACKS, so that slack stands apart from c in a bound's
+// weight.
+pub const D: usize = 65535 / SLACKS * SLACKS;
+
+// A slack is even or odd by the entry's kind, and else one of so many. The slacks of all entries together stay below D, so that a circle of
+// bounds with room for a whole number has room for them: on average one is about this large.
+const STEPS: usize = D / sheet::MAX_ENTRIES - 6;
 
 // A bound's weight without slack is this much more than its c, biased, in parts of D.
 pub const LOOSE: usize = SLACKS - 1;
@@ -58,12 +63,12 @@ pub const TOP: usize = 17592186044416;
 pub const EVEN: usize = BIAS * D + LOOSE;
 
 // A bound as one number: point a, point b, and the weight by which a may be over b.
-pub const POINT: usize = 256;
+pub const POINT: usize = PLACES;
 
-pub const WEIGHT: usize = 65536;
+pub const WEIGHT: usize = PLACES * POINT;
 
 fn bound(a: usize, b: usize, c: usize, slack: usize) -> usize
-    requires { ⌜ (a < 256) × (b < 256) × (c ≤ 65536) × (slack < 1024) ⌝ }
+    requires { ⌜ (a < places) × (b < places) × (c ≤ 65536) × (slack < slacks) ⌝ }
     ensures { λ r. ⌜ r ≡ boundOf a b c slack ⌝ }
 {
     a + POINT * b + WEIGHT * (c * D + (LOOSE - slack))
@@ -85,7 +90,7 @@ fn put(m: &mut [usize; MEMORY], at: usize, bound: usize) -> usize
 
 // Notes that a is b and c: it is at most that, and that is at most it.
 pub fn tie(m: &mut [usize; MEMORY], at: usize, a: usize, b: usize, c: u16) -> usize
-    requires { ⌜ (at ≤ memory) × (a < 256) × (b < 256) ⌝ }
+    requires { ⌜ (at ≤ memory) × (a < places) × (b < places) ⌝ }
     ensures answer { λ r. ⌜ (at ≤ r) × (r ≤ memory) ⌝ }
     ensures worked { λ _. ⌜ Worked (now (m .entry)) (now (m .exit)) ⌝ }
 {
@@ -173,7 +178,7 @@ fn note_entry(m: &mut [usize; MEMORY], at: usize, e: EntryNumber, marked: bool, 
     if kind == 0 {
         return tie(m, at, a, b, f.c);
     }
-    let slack = 2 + 2 * ((e.0 as usize) * 113 % 498) + (kind as usize) % 2;
+    let slack = 2 + 2 * ((e.0 as usize) * 113 % STEPS) + (kind as usize) % 2;
     put(m, at, bound(a, b, biased(f.c), slack))
 }
 
@@ -191,10 +196,10 @@ fn application_of(i: TermNumber, f: Fields) -> usize
 }
 
 // The fields of an application: its arguments, its kind and symbol, and a mark that it is one.
-pub const FIRST: usize = 256;
+pub const FIRST: usize = PLACES;
 
-pub const SECOND: usize = 65536;
+pub const SECOND: usize = PLACES * FIRST;
 
-pub const KEY: usize = 16777216;
+pub const KEY: usize = PLACES * SECOND;
 
-const ONE: usize = 8589934592;
+const ONE: usize = 512 * KEY;

@@ -44,6 +44,6 @@ fn search(sheet: &[u8], room: &mut [u8]) -> Answer
     let mut d = [0u32; table::CELLS];
     match verdict::on(sheet, &every, &mut d) {
         Verdict::Holds => Answer::Holds(values::write(sheet, &d, room) as u16),
-        Verdict::Clashes => Answer::Clashes(blame::write(sheet, room) as u16),
+        Verdict::Clashes => Answer::Clashes(blame::write(sheet, room, &mut d) as u16),
     }
 }

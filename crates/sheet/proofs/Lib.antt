@@ -1,3 +1,4 @@
 pub mod Decode
 pub mod Told
 pub mod Below
+pub mod Numbers

@@ -4,11 +4,11 @@ use Prim.Native.Nat.{ℕ, _+_, _*_}
 
 -- T is 1 to this
 abbrev pub maxTerms : ℕ
-maxTerms = 64
+maxTerms = 128
 
 -- L is 0 to this
 abbrev pub maxEntries : ℕ
-maxEntries = 64
+maxEntries = 128
 
 -- the length of a sheet of T terms and L entries
 abbrev pub sheetLength : ℕ → ℕ → ℕ

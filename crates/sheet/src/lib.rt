@@ -6,9 +6,9 @@ ghost use Rattle.sheet.specs.Decode.{decodeTerm, decodeEntry, relationOf
 ghost use Rattle.sheet.specs.Says.{termSays, entrySays, biasedSays, relationSays};
 
 // The limits of a sheet: T is 1 to MAX_TERMS, L is 0 to MAX_ENTRIES.
-pub const MAX_TERMS: usize = 64;
+pub const MAX_TERMS: usize = 128;
 
-pub const MAX_ENTRIES: usize = 64;
+pub const MAX_ENTRIES: usize = 128;
 
 // The length of the longest sheet, and the answer room that every sheet's answer fits in.
 pub const LONGEST: usize = 6 + 6 * MAX_TERMS + 6 * MAX_ENTRIES;

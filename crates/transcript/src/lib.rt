@@ -9,7 +9,7 @@ use slips::Found;
 use slips::Slip;
 
 // The room that every sheet fits in.
-pub const ROOM: usize = 6 + 6 * sheet::MAX_TERMS + 6 * sheet::MAX_ENTRIES;
+pub const ROOM: usize = sheet::LONGEST;
 
 // What the call says of a text. Sheet has the length of the sheet in the room.
 pub enum Typed {

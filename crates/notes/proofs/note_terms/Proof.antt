@@ -6,13 +6,13 @@ use lib.ListN.{length, length-set}
 use native.Mathlib.Omega.{arith}
 use denote.Ref.{now}
 use Rattle.sheet.proofs.Decode.{terms-stated}
-use Rattle.notes.specs.Limits.{memory}
+use Rattle.notes.specs.Limits.{applicationsAt, memory}
 use borrow.Author.Needs.{needs}
 use Rattle.notes.proofs.note_terms.Statement.{statement}
 use Rattle.notes.proofs.note_terms.Tie as tie
 
 abbrev Inv-loop : tie.InvT-loop
-Inv-loop m₀ sheet t at₀ applied₀ i₀ m at applied i = (length m ≡ length m₀) × (at ≤ memory) × (applied ≤ 640 + i) × (i ≤ t)
+Inv-loop m₀ sheet t at₀ applied₀ i₀ m at applied i = (length m ≡ length m₀) × (at ≤ memory) × (applied ≤ applicationsAt + i) × (i ≤ t)
 
 abbrev μ-loop : tie.MeasureT-loop
 μ-loop m₀ sheet t at₀ applied₀ i₀ m at applied i = t - i
