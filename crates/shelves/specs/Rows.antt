@@ -25,7 +25,7 @@ pub record RowAgrees (keys v : List ℕ) (first second level i : ℕ) : Type 0 w
 
 -- how many shelves there are
 abbrev pub shelfCount : ℕ
-shelfCount = 256
+shelfCount = 4 * maxTerms
 
 -- a shelf for each first key: keys on two shelves are two
 abbrev pub shelfOf : ℕ → ℕ

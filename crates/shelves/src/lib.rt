@@ -11,8 +11,8 @@ ghost use Rattle.shelves.specs.Rows.{keyCount, stored, Alike, RowAgrees,
 // Places for the terms' first keys, and behind them for their second.
 pub const KEYS: usize = 2 * sheet::MAX_TERMS;
 
-// How many shelves the first keys are spread over.
-pub const SHELVES: usize = 256;
+// How many shelves the first keys are spread over: so many that most stay empty.
+pub const SHELVES: usize = 4 * sheet::MAX_TERMS;
 
 // Stores the keys of term i, and answers whether it has the level of each term before it that has its input. An empty shelf says that
 // none has, and spares the comparisons. A term without an input has 0 as its first key, and is compared with none.
