@@ -2,10 +2,9 @@
 //! up one after the other. It is what a programmer would write who wants speed, and is only timed
 //! against; the independent reader of `second` is made to be clear and takes several passes.
 
+use second::sheet::MOST;
 use second::text::ROOM;
 
-/// The most terms, and the most lines.
-const MOST: usize = 64;
 /// The most brackets that may be open at once.
 const DEEPEST: usize = 16;
 

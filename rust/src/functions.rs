@@ -2,10 +2,11 @@
 //!
 //! Rests on the second rule of "What it means to hold".
 
-use crate::groups::{at, Groups, Spot, Tie};
+use crate::groups::{at, Groups, Spot, Tie, POINTS};
 use crate::sheet::MOST;
 
-const BUCKETS: usize = 128;
+/// As many as there may be applications, so that few share one; a power of two.
+const BUCKETS: usize = POINTS;
 const NONE: u8 = u8::MAX;
 
 /// A function of two spots. Kind and symbol make the function; one of one term takes it twice.
@@ -69,29 +70,31 @@ impl Functions {
     /// new tie calls for another turn only if it joins terms of applications that were done.
     pub fn tie(&mut self, groups: &mut Groups) -> Tie {
         let mut answer = Tie::Known;
-        let mut again = groups.tied() != 0;
+        let mut again = groups.any_tied();
         while again {
             again = false;
-            let mut done = 0u64;
+            let mut done = [false; POINTS];
             self.last = [NONE; BUCKETS];
             for own in 0..self.count {
                 let Application { function, a, b } = self.applications[own];
-                let terms = 1 << a.point() | 1 << b.point();
-                if terms & groups.tied() == 0 {
-                    done |= terms;
+                if !groups.is_tied(a.point()) && !groups.is_tied(b.point()) {
+                    done[at(a.point())] = true;
+                    done[at(b.point())] = true;
                     continue;
                 }
                 let (a, b) = (groups.find(a), groups.find(b));
-                done |= 1 << a.point() | 1 << b.point();
+                done[at(a.point())] = true;
+                done[at(b.point())] = true;
                 if let Some(other) = self.meet(own, Application { function, a, b }) {
                     let (one, other) = (Spot::new(self.points[own]), Spot::new(other));
-                    let joined = 1 << groups.find(one).point() | 1 << groups.find(other).point();
+                    let was_done = |spot| done[at(groups.find(spot).point())];
+                    let joins_done = was_done(one) || was_done(other);
                     match groups.tie(one, other) {
                         Tie::Known => {}
                         Tie::Clash => return Tie::Clash,
                         Tie::New => {
                             answer = Tie::New;
-                            again |= joined & done != 0;
+                            again |= joins_done;
                         }
                     }
                 }
@@ -104,7 +107,8 @@ impl Functions {
     fn meet(&mut self, own: usize, application: Application) -> Option<u8> {
         let Application { function, a, b } = application;
         let mixed = a.number() + 3 * b.number() + 5 * i64::from(function);
-        let bucket = ((mixed as u64).wrapping_mul(0x9E37_79B9_7F4A_7C15) >> 57) as usize;
+        let mixed = (mixed as u64).wrapping_mul(0x9E37_79B9_7F4A_7C15);
+        let bucket = (mixed >> (u64::BITS - BUCKETS.trailing_zeros())) as usize;
         let mut other = self.last[bucket];
         while other != NONE {
             if self.come[at(other)] == application {

@@ -2,16 +2,21 @@
 //!
 //! Rests on "Where the rules come from" and "What a written reason may say". Gaps are counted in
 //! parts, `PARTS` to one, and a strict bound is a part less. A cycle that meets no point twice has
-//! at most 64 bounds, fewer than `PARTS`. So it clashes exactly when its total in parts is below
-//! zero; and at zero it has no strict bound, and ties its points.
+//! at most `POINTS` bounds, fewer than `PARTS`. So it clashes exactly when its total in parts is
+//! below zero; and at zero it has no strict bound, and ties its points.
 
-use crate::groups::{at, each, Groups, Spot, POINTS};
+use crate::groups::{at, Groups, Spot, POINTS};
+use crate::knots::Knots;
+use crate::sheet::MOST;
 
 /// Parts to one: two for each bound of a cycle.
-pub const PARTS: i64 = 128;
+pub const PARTS: i64 = 2 * POINTS as i64;
 
 /// The most bounds: an entry each, and two for each number or shift where a shortcut keeps them.
-const BOUNDS: usize = 3 * POINTS;
+const BOUNDS: usize = 3 * MOST;
+
+/// Beyond every bound.
+const NONE: u16 = u16::MAX;
 
 /// The bound a ≤ b + gap, between the first points of two groups.
 #[derive(Clone, Copy, Default)]
@@ -37,17 +42,11 @@ pub struct Gaps {
     count: usize,
     tighter: i64,
     level: [i64; POINTS],
-    lowered: u64,
-    /// The bound that last lowered a point.
-    by: [u8; POINTS],
-    path: [Part; POINTS],
-}
-
-/// Points that are tied to each other, and the points that lie one step on.
-#[derive(Clone, Copy, Default)]
-struct Part {
-    points: u64,
-    onward: u64,
+    /// The bound that last lowered a point, if one has.
+    by: [u16; POINTS],
+    /// For few points, and for many: one word is quicker than two.
+    narrow: Knots<u64>,
+    wide: Knots<u128>,
 }
 
 impl Gaps {
@@ -57,15 +56,15 @@ impl Gaps {
             count: 0,
             tighter: 0,
             level: [0; POINTS],
-            lowered: 0,
-            by: [0; POINTS],
-            path: [Part::default(); POINTS],
+            by: [NONE; POINTS],
+            narrow: Knots::new(),
+            wide: Knots::new(),
         }
     }
 
-    /// Puts every point on one level.
-    pub fn clear(&mut self) {
-        self.level = [0; POINTS];
+    /// Puts so many points on one level.
+    pub fn clear(&mut self, points: u8) {
+        self.level[..usize::from(points)].fill(0);
     }
 
     /// How high a point is.
@@ -106,7 +105,7 @@ impl Gaps {
     /// After n passes no point is higher than a walk of n bounds allows. So if the last of `POINTS`
     /// passes still lowers a point, the walk back from it has no end: it runs into a cycle.
     pub fn settle(&mut self, passes: usize) -> Option<Settled> {
-        self.lowered = 0;
+        self.by = [NONE; POINTS];
         for pass in 1..=passes {
             let last = match self.pass(pass % 2 == 1) {
                 Some(last) => last,
@@ -130,19 +129,14 @@ impl Gaps {
     /// either way, since chains are written either way.
     fn pass(&mut self, backward: bool) -> Option<u8> {
         let Gaps {
-            bounds,
-            level,
-            lowered,
-            by,
-            ..
+            bounds, level, by, ..
         } = self;
         let mut last = None;
         let mut meet = |(own, bound): (usize, &Bound)| {
             let most = level[at(bound.b)] + bound.gap;
             if most < level[at(bound.a)] {
                 level[at(bound.a)] = most;
-                *lowered |= 1 << bound.a;
-                by[at(bound.a)] = own as u8;
+                by[at(bound.a)] = own as u16;
                 last = Some(bound.a);
             }
         };
@@ -159,90 +153,47 @@ impl Gaps {
     /// total of the cycle, with its bounds no tighter than they are.
     ///
     /// As they were taken it is below zero, since the points lowered each other. If the whole gaps
-    /// on it added up to 1, it would be at least `PARTS` - 2 · 64 = 0 even with every bound strict
-    /// and a part tighter. So they add up to 0 or less: the cycle clashes below zero, and ties at
-    /// zero.
+    /// on it added up to 1, it would be at least `PARTS` - 2 · `POINTS` = 0 even with every bound
+    /// strict and a part tighter. So they add up to 0 or less: the cycle clashes below zero, and
+    /// ties at zero.
+    ///
+    /// The walk sets a mark ever more rarely. Once it is on the cycle with time enough to go round,
+    /// it comes back to the mark, and has then gone round once.
     fn cycle(&self, start: u8) -> Option<i64> {
-        let mut unseen = self.lowered;
         let mut point = start;
-        while unseen >> point & 1 == 1 {
-            unseen &= !(1 << point);
-            point = self.lowering(point).b;
-        }
-        if self.lowered >> point & 1 == 0 {
-            return None;
-        }
-        let end = point;
-        let mut total = 0;
+        let (mut mark, mut total) = (start, 0);
+        let mut steps = 0u32;
         loop {
-            let bound = self.lowering(point);
+            let bound = self.bounds.get(usize::from(self.by[at(point)]))?;
             total += bound.gap + self.tighter;
             point = bound.b;
-            if point == end {
+            if point == mark {
                 return Some(total);
             }
+            steps += 1;
+            if steps.is_power_of_two() {
+                (mark, total) = (point, 0);
+            }
         }
     }
 
-    fn lowering(&self, point: u8) -> &Bound {
-        &self.bounds[usize::from(self.by[at(point)])]
-    }
-
-    /// Ties all that the bounds tie, given levels that meet them.
+    /// Ties all of so many points that the bounds tie, given levels that meet them.
     ///
     /// A cycle at zero goes over bounds that the levels meet exactly. So points are tied exactly
-    /// when such bounds lead from each to the other. A path over such bounds finds them: where it
-    /// comes back to itself, all between is one part.
-    pub fn tie(&mut self, groups: &mut Groups) {
-        let mut onward = [0; POINTS];
-        let (mut left, mut entered) = (0u64, 0u64);
-        for &Bound { a, b, gap } in &self.bounds[..self.count] {
-            if self.level[at(a)] == self.level[at(b)] + gap {
-                onward[at(b)] |= 1 << a;
-                left |= 1 << b;
-                entered |= 1 << a;
-            }
-        }
-        let mut open = left & entered;
-        while let Some(start) = each(open).next() {
-            let mut on_path = 1 << start;
-            let mut end = 0;
-            self.path[end] = Part {
-                points: on_path,
-                onward: onward[start],
-            };
-            loop {
-                let part = self.path[end];
-                let next = part.onward & open & !part.points;
-                if next & on_path != 0 {
-                    end -= 1;
-                    self.path[end].points |= part.points;
-                    self.path[end].onward |= part.onward;
-                } else if let Some(point) = each(next).next() {
-                    end += 1;
-                    on_path |= 1 << point;
-                    self.path[end] = Part {
-                        points: 1 << point,
-                        onward: onward[point],
-                    };
-                } else {
-                    self.tie_part(part.points, groups);
-                    open &= !part.points;
-                    on_path &= !part.points;
-                    if end == 0 {
-                        break;
-                    }
-                    end -= 1;
-                }
-            }
-        }
-    }
-
-    fn tie_part(&self, points: u64, groups: &mut Groups) {
-        let first = points.trailing_zeros() as u8;
-        for point in each(points & (points - 1)) {
-            let above = self.level[point] - self.level(first);
-            groups.tie(Spot::new(point as u8), Spot::new(first).plus(above));
+    /// when such bounds lead from each to the other.
+    pub fn tie(&mut self, points: u8, groups: &mut Groups) {
+        let level = &self.level;
+        let exactly = |bound: &&Bound| level[at(bound.a)] == level[at(bound.b)] + bound.gap;
+        let met = self.bounds[..self.count].iter().filter(exactly);
+        let steps = met.map(|bound| (bound.b, bound.a));
+        let tie = |first: u8, other: u8| {
+            let above = level[at(other)] - level[at(first)];
+            groups.tie(Spot::new(other), Spot::new(first).plus(above));
+        };
+        if u32::from(points) <= u64::BITS {
+            self.narrow.find(points, steps, tie);
+        } else {
+            self.wide.find(points, steps, tie);
         }
     }
 }

@@ -4,24 +4,14 @@
 //! add up along ties. Each point knows where it lies above the first point of its group, so asking
 //! takes one look; joining two groups tells the members of the smaller one.
 
-/// The most points: each is a term.
-pub const POINTS: usize = 64;
+use crate::sheet::MOST;
+
+/// The most points, as each is a term; a power of two.
+pub const POINTS: usize = MOST.next_power_of_two();
 
 /// The index of a point; the remainder tells the compiler what is true of every point.
 pub fn at(point: u8) -> usize {
     usize::from(point) % POINTS
-}
-
-/// The members of a set of points or of entries, rising.
-pub fn each(mut set: u64) -> impl Iterator<Item = usize> {
-    std::iter::from_fn(move || {
-        if set == 0 {
-            return None;
-        }
-        let member = set.trailing_zeros() as usize;
-        set &= set - 1;
-        Some(member % 64)
-    })
 }
 
 /// A point plus some parts, as one number: `POINTS` for each part, plus the point.
@@ -67,30 +57,48 @@ pub struct Groups {
     next: [u8; POINTS],
     /// How many they are, kept for the first.
     size: [u8; POINTS],
-    tied: u64,
+    tied: bool,
 }
 
-impl Groups {
-    /// Each point is a group of its own.
-    pub const APART: Groups = {
-        let mut groups = Groups {
-            seen: [Spot(0); POINTS],
-            next: [0; POINTS],
-            size: [1; POINTS],
-            tied: 0,
-        };
-        let mut point = 0;
-        while point < POINTS {
-            groups.seen[point] = Spot(point as i64);
-            groups.next[point] = point as u8;
-            point += 1;
-        }
-        groups
+/// Each point is a group of its own.
+static APART: Groups = {
+    let mut groups = Groups {
+        seen: [Spot(0); POINTS],
+        next: [0; POINTS],
+        size: [1; POINTS],
+        tied: false,
     };
+    let mut point = 0;
+    while point < POINTS {
+        groups.seen[point] = Spot(point as i64);
+        groups.next[point] = point as u8;
+        point += 1;
+    }
+    groups
+};
 
-    /// The points that are tied to others.
-    pub fn tied(&self) -> u64 {
+impl Groups {
+    pub fn new() -> Groups {
+        APART
+    }
+
+    /// Makes each of so many points a group of its own.
+    pub fn part(&mut self, points: u8) {
+        let points = ..usize::from(points);
+        self.seen[points].copy_from_slice(&APART.seen[points]);
+        self.next[points].copy_from_slice(&APART.next[points]);
+        self.size[points].copy_from_slice(&APART.size[points]);
+        self.tied = false;
+    }
+
+    /// Whether any points are tied.
+    pub fn any_tied(&self) -> bool {
         self.tied
+    }
+
+    /// Whether a point is tied to another.
+    pub fn is_tied(&self, point: u8) -> bool {
+        self.next[at(point)] != point
     }
 
     /// A spot, seen from the first point of its group. Two spots of a group are equal exactly if
@@ -128,7 +136,7 @@ impl Groups {
         // A swap makes one ring of two.
         self.next.swap(small, large);
         self.size[large] += self.size[small];
-        self.tied |= 1 << a.point() | 1 << b.point();
+        self.tied = true;
         Tie::New
     }
 }

@@ -4,7 +4,8 @@
 //! of sheets typed as text, resting on request 1 of document 02, which is compared on random texts.
 //!
 //! - `sheet` reads the fields and sends bad sheets back;
-//! - `groups`, `gaps`, `order` and `functions` know what is tied and how to tie more;
+//! - `groups`, `gaps`, `knots`, `order` and `functions` know what is tied and how to tie more;
+//! - `entries` has sets and lists of entries;
 //! - `verdict` judges a set of entries with those, each set from scratch;
 //! - `panel` finds the first list or the values, and writes the answer record;
 //! - `meaning` checks values against the document's meaning, and shares nothing with the judging
@@ -18,9 +19,11 @@
 #![warn(missing_docs)]
 
 pub mod comparing;
+mod entries;
 mod functions;
 mod gaps;
 mod groups;
+mod knots;
 pub mod meaning;
 mod order;
 mod panel;

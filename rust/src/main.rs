@@ -10,7 +10,7 @@ use std::io::{self, BufReader, BufWriter, Read, Write};
 use std::process::ExitCode;
 
 /// One more than the longest sheet, so that a sheet too long is seen to be.
-const LENT: u64 = 775;
+const LENT: u64 = sheet::LONGEST as u64 + 1;
 const LONGEST_FRAME: usize = 4096;
 /// The longest text that is read from standard input, and in a frame; and a frame's largest room.
 const LONGEST_TYPED: usize = 65_535;

@@ -2,41 +2,44 @@
 //! few passes. The first pass goes from last to first, so a good one has each bound before those
 //! that may lower its b, as far as cycles allow.
 
-use crate::groups::{at, each, Spot, POINTS};
+use crate::entries::{List, Set};
+use crate::groups::{at, Spot, POINTS};
 use crate::sheet::MOST;
 
+/// Beyond every way.
+const NONE: u16 = u16::MAX;
+
 pub struct Order {
-    bounds: [u8; MOST],
-    count: usize,
+    bounds: List,
     sorted: bool,
 }
 
 impl Order {
     pub fn new() -> Order {
         Order {
-            bounds: [0; MOST],
-            count: 0,
+            bounds: List::new(),
             sorted: false,
         }
     }
 
     pub fn clear(&mut self) {
-        self.count = 0;
+        self.bounds.clear();
         self.sorted = false;
     }
 
     /// Adds an entry that is a bound.
     pub fn add(&mut self, entry: usize) {
-        self.bounds[self.count] = entry as u8;
-        self.count += 1;
+        self.bounds.add(entry);
+    }
+
+    /// The bounds, in their order.
+    pub fn each(&self) -> impl Iterator<Item = usize> + '_ {
+        self.bounds.each()
     }
 
     /// The bounds in a set of entries.
-    pub fn of(&self, set: u64) -> impl Iterator<Item = usize> + '_ {
-        let bounds = self.bounds[..self.count].iter();
-        bounds
-            .map(|&entry| usize::from(entry) % MOST)
-            .filter(move |entry| set >> entry & 1 == 1)
+    pub fn of<'a>(&'a self, set: &'a Set) -> impl Iterator<Item = usize> + 'a {
+        self.bounds.of(set)
     }
 
     pub fn sorted(&self) -> bool {
@@ -45,44 +48,66 @@ impl Order {
 
     /// Sorts the bounds, by walks from point to point: from b to a, for a bound or an = entry, and
     /// for an = entry also from a to b. A point's bounds are added when the walks from it are done.
-    pub fn sort(&mut self, entries: &[(Spot, Spot); MOST], equal: u64) {
+    pub fn sort(&mut self, points: u8, entries: &[(Spot, Spot); MOST], equal: &List) {
         let mut walk = Walk {
-            onward: [0; POINTS],
-            leaving: [0; POINTS],
-            unseen: u64::MAX,
+            last: [NONE; POINTS],
+            before: [NONE; 3 * MOST],
+            to: [0; 3 * MOST],
+            seen: [false; POINTS],
         };
-        for entry in self.of(u64::MAX) {
+        for entry in equal.each() {
             let (a, b) = entries[entry];
-            walk.onward[at(b.point())] |= 1 << a.point();
-            walk.leaving[at(b.point())] |= 1 << entry;
+            walk.add(MOST + entry, b, a);
+            walk.add(2 * MOST + entry, a, b);
         }
-        for entry in each(equal) {
+        for entry in self.bounds.each().rev() {
             let (a, b) = entries[entry];
-            walk.onward[at(b.point())] |= 1 << a.point();
-            walk.onward[at(a.point())] |= 1 << b.point();
+            walk.add(entry, b, a);
         }
-        self.count = 0;
-        while let Some(point) = each(walk.unseen).next() {
-            walk.from(point, self);
+        self.bounds.clear();
+        for point in 0..points {
+            if !walk.seen[at(point)] {
+                walk.from(point, &mut self.bounds);
+            }
         }
         self.sorted = true;
     }
 }
 
+/// Ways from point to point. Those that leave a point form a list: the point knows the last of
+/// them, and each knows the one before it. The way of a bound has the number of its entry, and
+/// others have higher ones.
 struct Walk {
-    onward: [u64; POINTS],
-    leaving: [u64; POINTS],
-    unseen: u64,
+    last: [u16; POINTS],
+    before: [u16; 3 * MOST],
+    to: [u8; 3 * MOST],
+    seen: [bool; POINTS],
 }
 
 impl Walk {
-    fn from(&mut self, point: usize, order: &mut Order) {
-        self.unseen &= !(1 << point);
-        while let Some(next) = each(self.onward[point] & self.unseen).next() {
-            self.from(next, order);
+    fn add(&mut self, way: usize, from: Spot, to: Spot) {
+        let last = &mut self.last[at(from.point())];
+        self.to[way] = to.point();
+        self.before[way] = *last;
+        *last = way as u16;
+    }
+
+    fn from(&mut self, point: u8, order: &mut List) {
+        self.seen[at(point)] = true;
+        let last = usize::from(self.last[at(point)]);
+        let mut way = last;
+        while way < 3 * MOST {
+            let to = self.to[way];
+            if !self.seen[at(to)] {
+                self.from(to, order);
+            }
+            way = usize::from(self.before[way]);
         }
-        for entry in each(self.leaving[point]) {
-            order.add(entry);
+        // Bounds were added behind all others, the first of them last.
+        way = last;
+        while way < MOST {
+            order.add(way);
+            way = usize::from(self.before[way]);
         }
     }
 }

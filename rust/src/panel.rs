@@ -2,8 +2,8 @@
 //!
 //! Rests on "The answer record" and "When the panel sends a sheet back".
 
-use crate::groups::each;
-use crate::sheet;
+use crate::entries::Set;
+use crate::sheet::{self, MOST};
 use crate::shortcut::Shortcut;
 use crate::verdict::Judge;
 
@@ -54,22 +54,22 @@ impl Panel {
         if let Some(refusal) = refusal {
             return refusal;
         }
-        let all = self.judge.all();
-        if !self.judge.clashes(all) {
+        let entries = usize::from(sheet[4]);
+        let all = first(entries);
+        if !self.judge.clashes(&all, true) {
             let (denominator, values) = self.judge.values();
             let bytes = values.map(i64::to_be_bytes);
             return (HOLDS, write(room, HOLDS, denominator, bytes));
         }
         let list = match self.shortcut {
-            Some(Shortcut::Fewest) => self.fewest(all),
-            Some(Shortcut::MetLast) => self.met_last(all),
-            _ => self.first_list(all),
+            Some(Shortcut::Fewest) => self.fewest(entries),
+            Some(Shortcut::MetLast) => self.met_last(entries),
+            _ => self.first_list(entries),
         };
-        let bytes = each(list).map(|entry| [entry as u8]);
-        (
-            CLASHES,
-            write(room, CLASHES, list.count_ones() as u16, bytes),
-        )
+        let bytes = (0..entries)
+            .filter(|&entry| list[entry])
+            .map(|entry| [entry as u8]);
+        (CLASHES, write(room, CLASHES, count(&list), bytes))
     }
 
     /// The first list that clashes: of two lists, the one without the highest entry that only one
@@ -77,45 +77,54 @@ impl Panel {
     ///
     /// More entries never undo a clash. So with the choice made for all higher entries, some list
     /// without this one clashes exactly when the list of all the rest does.
-    fn first_list(&mut self, all: u64) -> u64 {
-        let mut list = all;
-        for entry in (0..u64::BITS - all.leading_zeros()).rev() {
-            let rest = list & !(1 << entry);
-            if self.judge.clashes(rest) {
-                list = rest;
-            }
+    fn first_list(&mut self, entries: usize) -> Set {
+        let mut list = first(entries);
+        for entry in (0..entries).rev() {
+            list[entry] = false;
+            list[entry] = !self.judge.clashes(&list, false);
         }
         list
     }
 
-    /// The first among the lists with the fewest entries, if they are three or fewer.
-    fn fewest(&mut self, all: u64) -> u64 {
-        let honest = self.first_list(all);
-        (1..honest.count_ones().min(4))
-            .find_map(|few| self.first_of(few, 0, all))
+    /// The first among the lists with the fewest entries, if they are one or two.
+    fn fewest(&mut self, entries: usize) -> Set {
+        let honest = self.first_list(entries);
+        (1..count(&honest).min(3))
+            .find_map(|few| self.first_of(few, first(0), entries))
             .unwrap_or(honest)
     }
 
-    /// The first clashing list that adds so many entries of a set to a list.
-    fn first_of(&mut self, few: u32, list: u64, set: u64) -> Option<u64> {
+    /// The first clashing list that adds so many entries, each below some number, to a list.
+    fn first_of(&mut self, few: u16, list: Set, below: usize) -> Option<Set> {
         if few == 0 {
-            return if self.judge.clashes(list) {
-                Some(list)
-            } else {
-                None
-            };
+            return self.judge.clashes(&list, false).then_some(list);
         }
-        each(set)
-            .find_map(|entry| self.first_of(few - 1, list | 1 << entry, set & ((1 << entry) - 1)))
+        (0..below).find_map(|entry| {
+            let mut more = list;
+            more[entry] = true;
+            self.first_of(few - 1, more, entry)
+        })
     }
 
     /// Every entry up to the one that brought the clash.
-    fn met_last(&mut self, all: u64) -> u64 {
-        each(all)
-            .map(|entry| all & (u64::MAX >> (63 - entry)))
-            .find(|&set| self.judge.clashes(set))
-            .unwrap_or(all)
+    fn met_last(&mut self, entries: usize) -> Set {
+        (1..entries)
+            .map(first)
+            .find(|set| self.judge.clashes(set, false))
+            .unwrap_or(first(entries))
     }
+}
+
+/// The set of the first so many entries.
+fn first(entries: usize) -> Set {
+    let mut set = [false; MOST];
+    set[..entries].fill(true);
+    set
+}
+
+/// How many entries a set has.
+fn count(set: &Set) -> u16 {
+    set.iter().map(|&member| u16::from(member)).sum()
 }
 
 /// Writes an answer record and answers its length.

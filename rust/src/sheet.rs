@@ -2,11 +2,15 @@
 //!
 //! Rests on "The sheet, byte by byte" and "When the panel sends a sheet back".
 
-/// The most terms, and the most entries, of a sheet.
-pub const MOST: usize = 64;
+/// The most terms, and the most entries, of a sheet. Every other size follows from it.
+pub const MOST: usize = 128;
 
-/// The answer room that is enough for every answer.
-pub const ROOM: usize = 520;
+/// The answer room that is enough for every answer: a head of eight bytes, and as many for each
+/// value.
+pub const ROOM: usize = 8 + 8 * MOST;
+
+/// The bytes of the longest sheet.
+pub const LONGEST: usize = HEAD + RECORD * (MOST + MOST);
 
 const HEAD: usize = 6;
 const RECORD: usize = 6;

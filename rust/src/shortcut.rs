@@ -15,7 +15,7 @@ pub enum Shortcut {
     OnlyEqual,
     /// Reads < as "≤ minus 1".
     MinusOne,
-    /// Names the fewest entries that clash, where three or fewer do.
+    /// Names the fewest entries that clash, where one or two do.
     Fewest,
     /// Blames every entry up to the one at which the clash was met.
     MetLast,

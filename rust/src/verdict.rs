@@ -4,17 +4,23 @@
 //! has a new one. Over the rationals that is enough: there are then values in which only tied terms
 //! are equal (see `values`), so each ≠ entry may be judged by itself.
 
+use crate::entries::{List, Set};
 use crate::functions::{Application, Functions};
 use crate::gaps::{Gaps, Settled, PARTS};
-use crate::groups::{each, Groups, Spot, Tie, POINTS};
+use crate::groups::{Groups, Spot, Tie, POINTS};
 use crate::order::Order;
 use crate::sheet::{Record, MOST};
 use crate::shortcut::Shortcut;
 
-const EQUAL: usize = 0;
-const UNEQUAL: usize = 1;
-const AT_MOST: usize = 2;
-const UNDER: usize = 3;
+const EQUAL: u8 = 0;
+const UNEQUAL: u8 = 1;
+const UNDER: u8 = 3;
+
+/// A part is worth `POINTS`: 256 · 128 = 2^15.
+const D: u16 = PARTS as u16 * POINTS as u16;
+
+// What values rest on: each n lies within 2^40.
+const _: () = assert!((4 * MOST as i64 + 4) << 15 <= (1 << 40) / D as i64);
 
 /// Passes after which bounds are worth sorting.
 const SOON: usize = 4;
@@ -31,8 +37,9 @@ pub struct Judge {
     zero: Option<Spot>,
     /// An entry compares one spot with another; where it is strict, with a part less.
     entries: [(Spot, Spot); MOST],
-    of_kind: [u64; 4],
-    order: Order,
+    equal: List,
+    unequal: List,
+    bounds: Order,
     /// Bounds that keep numbers and shifts in place, where a shortcut makes them points.
     links: [(Spot, Spot); 2 * MOST],
     linked: usize,
@@ -50,11 +57,12 @@ impl Judge {
             points: 0,
             zero: None,
             entries: [Default::default(); MOST],
-            of_kind: [0; 4],
-            order: Order::new(),
+            equal: List::new(),
+            unequal: List::new(),
+            bounds: Order::new(),
             links: [Default::default(); 2 * MOST],
             linked: 0,
-            groups: Groups::APART,
+            groups: Groups::new(),
             functions: Functions::new(),
             gaps: Gaps::new(),
         }
@@ -64,8 +72,9 @@ impl Judge {
     pub fn clear(&mut self) {
         self.points = 0;
         self.zero = None;
-        self.of_kind = [0; 4];
-        self.order.clear();
+        self.equal.clear();
+        self.unequal.clear();
+        self.bounds.clear();
         self.linked = 0;
         self.functions.clear();
     }
@@ -94,16 +103,16 @@ impl Judge {
     pub fn entry(&mut self, own: usize, entry: Record) {
         let a = self.spots[usize::from(entry.a)];
         let b = self.spots[usize::from(entry.b)].plus(i64::from(entry.c) * PARTS);
-        let kind = usize::from(entry.kind);
         let under = match self.shortcut {
-            _ if kind != UNDER => 0,
+            _ if entry.kind != UNDER => 0,
             Some(Shortcut::MinusOne) => PARTS,
             _ => 1,
         };
         self.entries[own] = (a, b.plus(-under));
-        self.of_kind[kind] |= 1 << own;
-        if kind == AT_MOST || kind == UNDER {
-            self.order.add(own);
+        match entry.kind {
+            EQUAL => self.equal.add(own),
+            UNEQUAL => self.unequal.add(own),
+            _ => self.bounds.add(own),
         }
     }
 
@@ -145,24 +154,22 @@ impl Judge {
         Spot::new(point)
     }
 
-    /// Every entry.
-    pub fn all(&self) -> u64 {
-        self.of_kind.iter().fold(0, |all, some| all | some)
-    }
-
-    /// Whether a set of entries clashes.
-    pub fn clashes(&mut self, set: u64) -> bool {
+    /// Whether a set of entries clashes. Where `values` are asked for, they are there if it doesn't.
+    pub fn clashes(&mut self, set: &Set, values: bool) -> bool {
         if self.shortcut == Some(Shortcut::Apart) {
-            let bounds = self.of_kind[AT_MOST] | self.of_kind[UNDER];
-            return self.clash(set & !bounds, true) || self.clash(set, false);
+            let mut no_bounds = *set;
+            for bound in self.bounds.each() {
+                no_bounds[bound] = false;
+            }
+            return self.clash(&no_bounds, true, false) || self.clash(set, false, values);
         }
-        self.clash(set, self.functions.matter())
+        self.clash(set, self.functions.matter(), values)
     }
 
-    fn clash(&mut self, set: u64, mut functions: bool) -> bool {
-        self.groups = Groups::APART;
-        self.gaps.clear();
-        for entry in each(set & self.of_kind[EQUAL]) {
+    fn clash(&mut self, set: &Set, mut functions: bool, values: bool) -> bool {
+        self.groups.part(self.points);
+        self.gaps.clear(self.points);
+        for entry in self.equal.of(set) {
             let (a, b) = self.entries[entry];
             if self.groups.tie(a, b) == Tie::Clash {
                 return true;
@@ -171,18 +178,17 @@ impl Judge {
         if functions && self.functions.tie(&mut self.groups) == Tie::Clash {
             return true;
         }
-        let mut unequal = set & self.of_kind[UNEQUAL];
-        if self.breaks(unequal) {
+        if self.breaks(set) {
             return true;
         }
+        let mut unequal = self.unequal.of(set).next().is_some();
         match self.shortcut {
             Some(Shortcut::OneHalf) => functions = false,
-            Some(Shortcut::OnlyEqual) => (functions, unequal) = (false, 0),
+            Some(Shortcut::OnlyEqual) => (functions, unequal) = (false, false),
             _ => {}
         }
         // Values need levels that meet each bound with a part to spare. Where there are such levels
         // the bounds tie nothing, so they are tried first.
-        let values = set == self.all();
         let mut tighter = i64::from(values);
         loop {
             if !self.take(set, tighter) {
@@ -197,16 +203,16 @@ impl Judge {
                     continue;
                 }
             }
-            if !values && !functions && unequal == 0 {
+            if !values && !functions && !unequal {
                 return false;
             }
-            self.gaps.tie(&mut self.groups);
+            self.gaps.tie(self.points, &mut self.groups);
             let more = if functions {
                 self.functions.tie(&mut self.groups)
             } else {
                 Tie::Known
             };
-            if more == Tie::Clash || self.breaks(unequal) {
+            if more == Tie::Clash || unequal && self.breaks(set) {
                 return true;
             }
             if more == Tie::Known {
@@ -219,27 +225,27 @@ impl Judge {
         }
     }
 
-    /// Whether spots are tied that a ≠ entry keeps apart.
-    fn breaks(&self, unequal: u64) -> bool {
-        each(unequal).any(|entry| {
+    /// Whether spots are tied that a ≠ entry of a set keeps apart.
+    fn breaks(&self, set: &Set) -> bool {
+        self.unequal.of(set).any(|entry| {
             let (a, b) = self.entries[entry];
             self.groups.find(a) == self.groups.find(b)
         })
     }
 
-    fn take(&mut self, set: u64, tighter: i64) -> bool {
+    fn take(&mut self, set: &Set, tighter: i64) -> bool {
         let links = self.links[..self.linked].iter().copied();
-        let bounds = self.order.of(set).map(|entry| self.entries[entry]);
+        let bounds = self.bounds.of(set).map(|entry| self.entries[entry]);
         self.gaps.take(links.chain(bounds), tighter, &self.groups)
     }
 
     /// Settles the bounds that were taken; if they don't settle soon, they are sorted first.
-    fn settle(&mut self, set: u64, tighter: i64) -> Settled {
-        if !self.order.sorted() {
+    fn settle(&mut self, set: &Set, tighter: i64) -> Settled {
+        if !self.bounds.sorted() {
             if let Some(settled) = self.gaps.settle(SOON) {
                 return settled;
             }
-            self.order.sort(&self.entries, self.of_kind[EQUAL]);
+            self.bounds.sort(self.points, &self.entries, &self.equal);
             self.take(set, tighter);
         }
         self.gaps
@@ -255,8 +261,9 @@ impl Judge {
     /// bound, and points of two groups never differ by a whole number. So no ≠ entry is broken,
     /// and two applications get equal terms only if those are tied.
     ///
-    /// A level, or a height above a first point, adds up at most 64 gaps of 2^15 and a few parts.
-    /// So |n| is about 4 · 64 · 2^15 · D = 2^36 at most.
+    /// A level, or a height above a first point, adds up at most 128 gaps of 2^15, one for each
+    /// term, and a few parts, fewer than make another such gap. So |n| is about 4 · 128 · 2^15 · D =
+    /// 2^39 at most.
     pub fn values(&self) -> (u16, impl Iterator<Item = i64> + '_) {
         let level = i64::from(self.shortcut == Some(Shortcut::Level));
         let n = move |spot: Spot| {
@@ -267,6 +274,6 @@ impl Judge {
         let zero = self.zero.map_or(0, n);
         let terms = self.spots[..self.terms].iter();
         let values = terms.map(move |&spot| n(spot) - zero);
-        (PARTS as u16 * POINTS as u16, values)
+        (D, values)
     }
 }

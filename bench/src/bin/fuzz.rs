@@ -21,7 +21,7 @@ use second::random::sheet::state_length;
 use second::random::texts::{LONGEST, TEXTS};
 use second::random::words::{hex, words};
 use second::random::Random;
-use second::sheet::ROOM;
+use second::sheet::{MOST, ROOM};
 use second::text::{Reader, ROOM as SHEET_ROOM};
 use second::{meaning, Panel};
 use std::ffi::c_void;
@@ -170,7 +170,7 @@ fn sheet(seed: u64, number: u64) -> Input {
         }
         _ => {
             // A good head, and records of anything: most are refused late, and some are judged.
-            let (t, l) = (1 + random.below(64), random.below(65));
+            let (t, l) = (1 + random.below(MOST), random.below(MOST + 1));
             sheet = (0..6 * (1 + t + l))
                 .map(|_| random.below(256) as u8)
                 .collect();

@@ -12,13 +12,13 @@ use bench::quick;
 use second::random::sheet::{Kind, Sheet, Term, TermRecord};
 use second::random::texts::TEXTS;
 use second::random::Random;
-use second::sheet::ROOM;
+use second::sheet::{MOST, ROOM};
 use second::text::{Reader, ROOM as SHEET_ROOM};
 use second::Panel;
 use std::fmt::Write;
 use std::time::{Duration, Instant};
 
-const SIZES: [usize; 3] = [16, 32, 64];
+const SIZES: [usize; 4] = [16, 32, 64, MOST];
 
 fn main() {
     match std::env::args().nth(1).as_deref() {
@@ -287,29 +287,29 @@ fn texts() {
     }
 }
 
-/// Texts that readers are timed on. Figures look for "64 lines" in the name.
+/// Texts that readers are timed on. Figures look for "128 lines" in the name.
 const TYPED: [(&str, fn() -> String); 6] = [
     ("three lines", || {
         "x0<=x1\nx1<=x0\nf7(x0)!=f7(x1)\n".to_string()
     }),
-    ("64 lines of bounds, 64 terms", || bounds(16, 3)),
-    ("64 lines of bounds, 16 terms", || bounds(8, 1)),
-    ("64 lines of towers, 6 deep", || towers(6)),
-    ("64 lines of towers, 16 deep", || towers(16)),
+    ("128 lines of bounds, 128 terms", || bounds(32, 3)),
+    ("128 lines of bounds, 16 terms", || bounds(8, 1)),
+    ("128 lines of towers, 6 deep", || towers(6)),
+    ("128 lines of towers, 16 deep", || towers(16)),
     ("a tree, long", tree),
 ];
 
 /// Each unknown at most another, shifted; there are so many of them, and so many shifts of each.
 fn bounds(unknowns: usize, shifts: usize) -> String {
     let mut text = String::new();
-    for line in 0..64 {
+    for line in 0..MOST {
         let (i, j, shift) = (
             line % unknowns,
             (5 * line + 3) % unknowns,
             line / unknowns % shifts,
         );
         let k = 100 * j as i64 - 37 * shift as i64 - 400;
-        writeln!(text, "x{}<=x{}{k:+}", 6 * i, 6 * j).unwrap();
+        writeln!(text, "x{}<=x{}{k:+}", 3 * i, 3 * j).unwrap();
     }
     text
 }
@@ -326,7 +326,7 @@ fn towers(deepest: usize) -> String {
         term
     };
     let mut text = String::new();
-    for line in 0..64 {
+    for line in 0..MOST {
         let (low, high) = (tower(line % deepest, "x0".to_string()), 1 + line % deepest);
         let high = tower(high, format!("x{}", line % 2));
         writeln!(text, "{low}<{high}").unwrap();

@@ -1,6 +1,7 @@
 //! The families of random sheets. Each is a recipe for a place where a panel could go wrong.
 
 use super::judged;
+use super::sheet::Sheet;
 use super::wrong;
 use super::Random;
 
@@ -17,66 +18,77 @@ impl Family {
     }
 }
 
+/// A sheet by a recipe, its terms and entries in any order. One in eight is large, and half of
+/// those are filled up to the limits.
+fn made(random: &mut Random, recipe: fn(&mut Random, bool) -> Sheet) -> Vec<u8> {
+    let large = random.one_in(8);
+    let mut sheet = recipe(random, large);
+    if large && random.coin() {
+        judged::fill(random, &mut sheet);
+    }
+    sheet.shuffled(random).bytes()
+}
+
 pub const FAMILIES: [Family; 14] = [
     Family {
         name: "chains",
         about: "cycles of bounds one step short of a clash, and one step over",
-        make: |random| judged::chains(random).shuffled(random).bytes(),
+        make: |random| made(random, judged::chains),
     },
     Family {
         name: "dense",
         about: "many bounds on few unknowns",
-        make: |random| judged::dense(random).shuffled(random).bytes(),
+        make: |random| made(random, judged::dense),
     },
     Family {
         name: "towers",
         about: "functions of functions over terms that are tied, or aren't",
-        make: |random| judged::towers(random).shuffled(random).bytes(),
+        make: |random| made(random, judged::towers),
     },
     Family {
         name: "rounds",
         about: "ties that need both halves in turn, several times",
-        make: |random| judged::rounds(random, 6).shuffled(random).bytes(),
+        make: |random| made(random, judged::rounds),
     },
     Family {
         name: "equalities",
         about: "terms tied by two bounds, shifts and numbers",
-        make: |random| judged::equalities(random).shuffled(random).bytes(),
+        make: |random| made(random, judged::equalities),
     },
     Family {
         name: "unequal",
         about: "many entries with ≠",
-        make: |random| judged::unequal(random).shuffled(random).bytes(),
+        make: |random| made(random, judged::unequal),
     },
     Family {
         name: "strict",
         about: "many entries with <",
-        make: |random| judged::strict(random).shuffled(random).bytes(),
+        make: |random| made(random, judged::strict),
     },
     Family {
         name: "extremes",
         about: "c at both ends of its range",
-        make: |random| judged::extremes(random).shuffled(random).bytes(),
+        make: |random| made(random, judged::extremes),
     },
     Family {
         name: "same",
         about: "entries that stand twice, and terms compared with themselves",
-        make: |random| judged::same(random).shuffled(random).bytes(),
+        make: |random| made(random, judged::same),
     },
     Family {
         name: "overlapping",
         about: "several clashes with entries in common",
-        make: |random| judged::overlapping(random).shuffled(random).bytes(),
+        make: |random| made(random, judged::overlapping),
     },
     Family {
         name: "largest",
-        about: "64 terms, 64 entries, or both",
+        about: "as many terms, entries or both as a sheet can have",
         make: |random| judged::largest(random).shuffled(random).bytes(),
     },
     Family {
         name: "mix",
-        about: "a little of everything, on small sheets",
-        make: |random| judged::mix(random).shuffled(random).bytes(),
+        about: "a little of everything",
+        make: |random| made(random, judged::mix),
     },
     Family {
         name: "fields",
@@ -93,7 +105,7 @@ pub const FAMILIES: [Family; 14] = [
 #[cfg(test)]
 mod tests {
     use super::*;
-    use crate::sheet::{refusal, ROOM};
+    use crate::sheet::{refusal, MOST, ROOM};
     use crate::Panel;
 
     fn named(name: &str) -> &'static Family {
@@ -125,6 +137,32 @@ mod tests {
             assert!(
                 (300..=700).contains(&hold),
                 "{hold} in 1000 of {} hold",
+                family.name
+            );
+        }
+    }
+
+    #[test]
+    fn most_sheets_are_small_and_each_family_has_large_ones_and_the_largest() {
+        for family in &FAMILIES[..12] {
+            let sheets = (0..1000).map(|number| family.sheet(5, number));
+            let sizes: Vec<[usize; 2]> = sheets
+                .map(|sheet| [sheet[3].into(), sheet[4].into()])
+                .collect();
+            let share = |of: fn(&[usize; 2]) -> bool| sizes.iter().filter(|size| of(size)).count();
+            let shares = [
+                share(|size| size.iter().all(|&size| size < MOST / 2)),
+                share(|size| size.iter().any(|size| (MOST / 2..MOST).contains(size))),
+                share(|size| size[0] == MOST),
+                share(|size| size[1] == MOST),
+            ];
+            let few = match family.name {
+                "largest" => 0,
+                _ => 850,
+            };
+            assert!(
+                shares[0] > few && shares[1..].iter().all(|&share| share > 20),
+                "{shares:?} in 1000 of {}",
                 family.name
             );
         }

@@ -1,10 +1,12 @@
 //! The recipes for sheets that are judged. About half of each family's sheets hold. A recipe says
-//! what it finds: the fault of a panel that it was made for.
+//! what it finds: the fault of a panel that it was made for. Small sheets find most faults, and
+//! soon; large ones find tables that are too small and sets that are too narrow.
 
 use super::levels::Levels;
 use super::sheet::Kind::{AtMost, Equal, Under, Unequal};
-use super::sheet::{Entry, Kind, Sheet, Term, LIMIT};
+use super::sheet::{Entry, Kind, Sheet, Term};
 use super::Random;
+use crate::sheet::MOST;
 
 // The symbols of document 01's sheets.
 const F: u8 = 7;
@@ -86,16 +88,16 @@ fn total(random: &mut Random, strict: bool) -> i64 {
 }
 
 /// Finds totals that are off by one, and a strict bound that is overlooked or made up.
-pub fn chains(random: &mut Random) -> Sheet {
+pub fn chains(random: &mut Random, large: bool) -> Sheet {
     let mut sheet = Sheet::new();
-    let (strict, count) = (random.coin(), random.count(1..=11));
+    let (strict, count) = (random.coin(), random.size(large, 1..=11, MOST - 1));
     let mut gaps: Vec<i64> = (0..count).map(|_| random.within(-9..=9)).collect();
     gaps.push(total(random, strict) - gaps.iter().sum::<i64>());
     cycle(random, &mut sheet, &gaps, strict);
     if random.one_in(8) {
         sheet.leave_out(random);
     }
-    for _ in 0..random.below(4) {
+    for _ in 0..random.below(4).min(sheet.entries_left()) {
         let (a, b) = (sheet.any_term(random), sheet.any_term(random));
         sheet.at_most(a, b, random.within(100..=300));
     }
@@ -103,13 +105,13 @@ pub fn chains(random: &mut Random) -> Sheet {
 }
 
 /// Finds gaps that aren't closed, and a list that isn't the first of the many that clash.
-pub fn dense(random: &mut Random) -> Sheet {
+pub fn dense(random: &mut Random, large: bool) -> Sheet {
     let mut sheet = Sheet::new();
-    sheet.unknowns(random.count(3..=7));
+    sheet.unknowns(random.size(large, 3..=7, MOST / 4));
     if random.coin() {
         sheet.number(random.within(-4..=4));
     }
-    let (parts, count) = (random.within(1..=3), random.count(8..=40));
+    let (parts, count) = (random.within(1..=3), random.size(large, 8..=40, MOST));
     let missed = random.pick(&[0, 0, 1, 2]);
     let levels = Levels::hidden(random, &sheet, parts, 4);
     levels.fill(random, &mut sheet, &BOUNDS, count, missed);
@@ -118,9 +120,9 @@ pub fn dense(random: &mut Random) -> Sheet {
 
 /// Finds arguments that are never looked at again, symbols and argument counts that are mixed up,
 /// and (x, y) taken for (y, x).
-pub fn towers(random: &mut Random) -> Sheet {
+pub fn towers(random: &mut Random, large: bool) -> Sheet {
     if random.one_in(3) {
-        return loops(random, 8);
+        return loops(random, if large { MOST - 3 } else { 8 });
     }
     let mut sheet = Sheet::new();
     let (x, y) = (sheet.unknown(), sheet.unknown());
@@ -133,7 +135,7 @@ pub fn towers(random: &mut Random) -> Sheet {
         }
     }
     let (mut a, mut b) = (x, y);
-    let height = random.count(1..=8);
+    let height = random.size(large, 1..=8, (MOST - 6) / 2);
     // One tower in three has a floor that isn't built alike on both sides.
     let odd_floor = random.below(3 * height);
     for floor in 0..height {
@@ -154,7 +156,8 @@ pub fn towers(random: &mut Random) -> Sheet {
             5 => (sheet.one(symbol, a), sheet.two(symbol, b, b)),
             _ => (sheet.two(symbol, a, u), sheet.two(symbol, v, b)),
         };
-        if random.one_in(5) {
+        // The floors above need two terms each.
+        if random.one_in(5) && sheet.terms_left() >= 2 * (height - floor) {
             let c = random.within(-3..=3);
             (a, b) = (sheet.shift(a, c), sheet.shift(b, c));
         }
@@ -181,11 +184,11 @@ fn loops(random: &mut Random, most: usize) -> Sheet {
 /// Finds equalities that aren't passed often enough, or one way only. Sheet 13, longer: functions
 /// tie what the bounds need for the next tie, and that one the next functions. With any link left
 /// out it holds.
-pub fn rounds(random: &mut Random, most: usize) -> Sheet {
+pub fn rounds(random: &mut Random, large: bool) -> Sheet {
     let mut sheet = Sheet::new();
     let (mut x, mut y) = (sheet.unknown(), sheet.unknown());
     tie(random, &mut sheet, x, y, 0);
-    for _ in 0..random.count(1..=most) {
+    for _ in 0..random.size(large, 1..=6, (MOST - 5) / 5) {
         let (fx, fy) = match random.below(3) {
             0 => (sheet.two(G, x, y), sheet.two(G, y, x)),
             _ => (sheet.one(F, x), sheet.one(F, y)),
@@ -207,16 +210,20 @@ pub fn rounds(random: &mut Random, most: usize) -> Sheet {
 
 /// Finds ties that are seen in = entries only: here arguments meet by way of shifts, numbers and
 /// two bounds.
-pub fn equalities(random: &mut Random) -> Sheet {
+pub fn equalities(random: &mut Random, large: bool) -> Sheet {
     let mut sheet = Sheet::new();
-    let points = sheet.unknowns(random.count(2..=5));
+    let points = sheet.unknowns(random.size(large, 2..=5, 3 * MOST / 8));
     let points: Vec<(Term, i64)> = points
         .into_iter()
         .map(|point| (point, random.within(-4..=4)))
         .collect();
     for i in 1..points.len() {
         let ((a, level_a), (b, level_b)) = (points[i], points[random.below(i)]);
-        if random.one_in(3) {
+        // The ties of later points take up to a term and two entries each, and what comes behind
+        // them up to six and two.
+        let later = points.len() - 1 - i;
+        let left = sheet.terms_left() >= 4 + later + 6 && sheet.entries_left() >= 4 + 2 * later + 2;
+        if left && random.one_in(3) {
             let (p, q) = (sheet.number(level_a), sheet.number(level_b));
             tie(random, &mut sheet, a, p, 0);
             tie(random, &mut sheet, b, q, 0);
@@ -234,7 +241,7 @@ pub fn equalities(random: &mut Random) -> Sheet {
         };
         part(random, &mut sheet, fa, fb);
     }
-    for _ in 0..random.below(5) {
+    for _ in 0..random.size(large, 0..=4, MOST / 16) {
         sheet.leave_out(random);
     }
     sheet
@@ -242,20 +249,20 @@ pub fn equalities(random: &mut Random) -> Sheet {
 
 /// Finds values where untied terms happen to be equal, and ≠ entries that are taken for broken, or
 /// for met, whatever is tied.
-pub fn unequal(random: &mut Random) -> Sheet {
+pub fn unequal(random: &mut Random, large: bool) -> Sheet {
     let mut sheet = Sheet::new();
-    sheet.unknowns(random.count(2..=5));
+    sheet.unknowns(random.size(large, 2..=5, MOST / 2));
     for _ in 0..random.below(3) {
         sheet.number(random.within(-2..=2));
     }
-    for _ in 0..random.below(4) {
+    for _ in 0..random.size(large, 0..=3, MOST / 2 - 3) {
         let a = sheet.any_term(random);
         sheet.one(F, a);
     }
     let (parts, few, many) = (
         random.within(1..=2),
-        random.count(2..=8),
-        random.count(4..=24),
+        random.size(large, 2..=8, MOST / 4),
+        random.size(large, 4..=24, MOST - MOST / 4 - 3),
     );
     let levels = Levels::hidden(random, &sheet, parts, 2);
     levels.fill(random, &mut sheet, &BOUNDS, few, 0);
@@ -272,9 +279,9 @@ pub fn unequal(random: &mut Random) -> Sheet {
 }
 
 /// Finds < read as "≤ minus 1", and too small a D: many levels lie between two whole ones.
-pub fn strict(random: &mut Random) -> Sheet {
+pub fn strict(random: &mut Random, large: bool) -> Sheet {
     let mut sheet = Sheet::new();
-    let points = random.count(2..=9);
+    let points = random.size(large, 2..=9, MOST - 2);
     sheet.unknowns(points);
     if random.coin() {
         sheet.number(random.within(-1..=1));
@@ -283,10 +290,8 @@ pub fn strict(random: &mut Random) -> Sheet {
         let a = sheet.any_term(random);
         sheet.one(F, a);
     }
-    let (count, missed) = (
-        random.count(points..=4 * points),
-        random.pick(&[0, 1, 2, 4]),
-    );
+    let count = random.count(points..=4 * points).min(MOST);
+    let missed = random.pick(&[0, 1, 2, 4]) * if large { 8 } else { 1 };
     let levels = Levels::hidden(random, &sheet, 60, 1);
     levels.fill(
         random,
@@ -299,13 +304,13 @@ pub fn strict(random: &mut Random) -> Sheet {
 }
 
 /// Finds sums that leave two bytes, and signs that are lost.
-pub fn extremes(random: &mut Random) -> Sheet {
+pub fn extremes(random: &mut Random, large: bool) -> Sheet {
     let mut sheet = Sheet::new();
     // They add up to minus the number of pairs.
-    let pairs = random.count(1..=8);
+    let pairs = random.size(large, 1..=8, MOST / 2 - 2);
     let mut ends = [vec![LOWEST; pairs], vec![HIGHEST; pairs]].concat();
     random.shuffle(&mut ends);
-    match random.below(5) {
+    match random.below(if large { 3 } else { 5 }) {
         // A cycle that only just holds, or only just clashes.
         0 => {
             let strict = random.coin();
@@ -320,10 +325,10 @@ pub fn extremes(random: &mut Random) -> Sheet {
             let (fx, fy) = (sheet.one(F, by_many), sheet.one(F, by_one));
             part(random, &mut sheet, fx, fy);
         }
-        // Sheet 14, shorter.
+        // Sheet 14, mostly shorter.
         2 => {
             let end = random.pick(&[LOWEST, HIGHEST]);
-            let points = sheet.unknowns(random.count(2..=20));
+            let points = sheet.unknowns(random.size(large, 2..=20, MOST));
             for next in points.windows(2) {
                 sheet.at_most(next[0], next[1], end);
             }
@@ -362,19 +367,25 @@ pub fn extremes(random: &mut Random) -> Sheet {
 }
 
 /// Finds an entry that is blamed instead of its twin, and terms whose equals aren't known as such.
-pub fn same(random: &mut Random) -> Sheet {
+pub fn same(random: &mut Random, large: bool) -> Sheet {
     let mut sheet = Sheet::new();
-    let x = sheet.unknown();
-    let c = random.within(-9..=9);
-    let (p, q) = (sheet.number(c), sheet.number(c));
-    let equals = [
-        (x, x),
-        (p, q),
-        (sheet.shift(x, 0), x),
-        (sheet.one(F, x), sheet.one(F, x)),
-        (sheet.two(F, p, x), sheet.two(F, q, x)),
-    ];
-    let (count, clashing) = (random.count(1..=6), random.pick(&[0, 0, 0, 1, 2, 3]));
+    let mut equals = Vec::new();
+    for _ in 0..random.size(large, 1..=1, MOST / 8) {
+        let x = sheet.unknown();
+        let c = random.within(-9..=9);
+        let (p, q) = (sheet.number(c), sheet.number(c));
+        equals.extend([
+            (x, x),
+            (p, q),
+            (sheet.shift(x, 0), x),
+            (sheet.one(F, x), sheet.one(F, x)),
+            (sheet.two(F, p, x), sheet.two(F, q, x)),
+        ]);
+    }
+    let (count, clashing) = (
+        random.size(large, 1..=6, MOST / 3),
+        random.pick(&[0, 0, 0, 1, 2, 3]),
+    );
     for i in 0..count {
         let (a, b) = random.pick(&equals);
         let (kind, c) = random.pick(if i < clashing { &FALSE } else { &TRUE });
@@ -388,17 +399,17 @@ pub fn same(random: &mut Random) -> Sheet {
 /// Finds a list that clashes and isn't the first: the shortest, the one met first or last. A ring
 /// of bounds ties all points, spokes tie some of them again, and each other entry clashes with some
 /// of those.
-pub fn overlapping(random: &mut Random) -> Sheet {
+pub fn overlapping(random: &mut Random, large: bool) -> Sheet {
     let mut sheet = Sheet::new();
-    let points = sheet.unknowns(random.count(2..=5));
+    let points = sheet.unknowns(random.size(large, 2..=5, MOST / 2));
     for i in 0..points.len() {
         sheet.at_most(points[i], points[(i + 1) % points.len()], 0);
     }
-    for _ in 0..random.below(5) {
+    for _ in 0..random.size(large, 0..=4, MOST / 4) {
         let (a, b) = (random.pick(&points), random.pick(&points));
         sheet.enter(random.pick(&[Equal, AtMost]), a, b, 0);
     }
-    for _ in 0..random.count(2..=5) {
+    for _ in 0..random.size(large, 2..=5, MOST / 4) {
         let (mut a, mut b) = (random.pick(&points), random.pick(&points));
         if random.coin() {
             (a, b) = (sheet.one(F, a), sheet.one(F, b));
@@ -415,24 +426,29 @@ pub fn overlapping(random: &mut Random) -> Sheet {
 /// Finds a limit that is one off, a table that is too small, and values beyond their limits.
 pub fn largest(random: &mut Random) -> Sheet {
     let mut sheet = match random.below(8) {
-        0 => loops(random, LIMIT - 3),
-        1 => rounds(random, 12),
+        0 => loops(random, MOST - 3),
+        1 => rounds(random, true),
         2 => long_cycle(random),
         3 => crowd(random),
         4 => one_term(random),
         _ => {
-            let entries = random.pick(&[0, 1, LIMIT - 1, LIMIT, LIMIT, LIMIT]);
-            return any(random, LIMIT, entries);
+            let entries = random.pick(&[0, 1, MOST - 1, MOST, MOST, MOST]);
+            return any(random, MOST, entries);
         }
     };
     if random.coin() {
-        sheet.unknowns(sheet.terms_left());
-        for _ in 0..sheet.entries_left() {
-            let (a, b) = (sheet.any_term(random), sheet.any_term(random));
-            sheet.at_most(a, b, HIGHEST);
-        }
+        fill(random, &mut sheet);
     }
     sheet
+}
+
+/// Fills a sheet up to its limits, with unknowns and with entries that mostly say nothing new.
+pub fn fill(random: &mut Random, sheet: &mut Sheet) {
+    sheet.unknowns(sheet.terms_left());
+    for _ in 0..sheet.entries_left() {
+        let (a, b) = (sheet.any_term(random), sheet.any_term(random));
+        sheet.at_most(a, b, HIGHEST);
+    }
 }
 
 /// Sheet 14, with other gaps too.
@@ -440,9 +456,9 @@ fn long_cycle(random: &mut Random) -> Sheet {
     let mut sheet = Sheet::new();
     let strict = random.coin();
     let mut gaps = match random.below(3) {
-        0 => vec![LOWEST; LIMIT - 1],
-        1 => [[LOWEST; LIMIT / 2 - 1], [HIGHEST; LIMIT / 2 - 1]].concat(),
-        _ => [(); LIMIT - 1].map(|_| random.within(-99..=99)).to_vec(),
+        0 => vec![LOWEST; MOST - 1],
+        1 => [[LOWEST; MOST / 2 - 1], [HIGHEST; MOST / 2 - 1]].concat(),
+        _ => [(); MOST - 1].map(|_| random.within(-99..=99)).to_vec(),
     };
     random.shuffle(&mut gaps);
     let back = total(random, strict) - gaps.iter().sum::<i64>();
@@ -457,11 +473,12 @@ fn long_cycle(random: &mut Random) -> Sheet {
 /// As many levels as a sheet can have, strictly between two whole ones.
 fn crowd(random: &mut Random) -> Sheet {
     let mut sheet = Sheet::new();
-    let points = sheet.unknowns(LIMIT);
+    let points = sheet.unknowns(MOST);
+    let kinds = random.pick(&[&[Under][..], &[Under, Under, AtMost]]);
     for next in points.windows(2) {
-        sheet.enter(random.pick(&[Under, Under, AtMost]), next[0], next[1], 0);
+        sheet.enter(random.pick(kinds), next[0], next[1], 0);
     }
-    let (first, last) = (points[0], points[LIMIT - 1]);
+    let (first, last) = (points[0], points[MOST - 1]);
     sheet.enter(
         random.pick(&[Under, AtMost]),
         last,
@@ -476,7 +493,7 @@ fn one_term(random: &mut Random) -> Sheet {
     let mut sheet = Sheet::new();
     let x = sheet.unknown();
     let clashing = random.below(3);
-    for i in 0..LIMIT {
+    for i in 0..MOST {
         let (kind, c) = random.pick(if i < clashing { &FALSE } else { &TRUE });
         sheet.enter(kind, x, x, c);
     }
@@ -484,8 +501,9 @@ fn one_term(random: &mut Random) -> Sheet {
 }
 
 /// Finds most faults, as small sheets do: a little of everything.
-pub fn mix(random: &mut Random) -> Sheet {
-    let (terms, entries) = (random.count(1..=12), random.count(0..=14));
+pub fn mix(random: &mut Random, large: bool) -> Sheet {
+    let terms = random.size(large, 1..=12, MOST);
+    let entries = random.size(large, 0..=14, MOST);
     any(random, terms, entries)
 }
 

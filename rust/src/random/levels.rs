@@ -117,6 +117,7 @@ impl Levels {
 mod tests {
     use super::*;
     use crate::random::judged::mix;
+    use crate::sheet::ROOM;
 
     #[test]
     fn what_levels_meet_holds() {
@@ -124,11 +125,11 @@ mod tests {
         let random = &mut Random::of(1, "levels", 0);
         for parts in [1, 2, 60] {
             for _ in 0..100 {
-                let mut sheet = mix(random);
+                let mut sheet = mix(random, false);
                 let levels = Levels::hidden(random, &sheet, parts, 2);
                 sheet.entries.clear();
                 levels.fill(random, &mut sheet, &[Equal, Unequal, AtMost, Under], 30, 0);
-                assert_eq!(panel.judge(&sheet.bytes(), &mut [0; 520]).0, 0);
+                assert_eq!(panel.judge(&sheet.bytes(), &mut [0; ROOM]).0, 0);
             }
         }
     }

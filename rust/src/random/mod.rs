@@ -1,6 +1,7 @@
 //! Random sheets, for the programs that test and time panels: `families` has the recipes, `sheet`
 //! is what they are made in, and `words` shows one. Rests on document 01's tables, and not on the
-//! panel beside it. Random texts, by `texts` and `typist`, rest on document 02 in the same way.
+//! panel beside it, but for the limit. Random texts, by `texts` and `typist`, rest on document 02
+//! in the same way.
 
 #![allow(missing_docs)]
 
@@ -50,6 +51,15 @@ impl Random {
     /// As many as a list should have.
     pub fn count(&mut self, range: RangeInclusive<usize>) -> usize {
         range.start() + self.below(range.end() - range.start() + 1)
+    }
+
+    /// As many as a small sheet should have; in a large one more than that, and often the most.
+    pub fn size(&mut self, large: bool, few: RangeInclusive<usize>, most: usize) -> usize {
+        match large {
+            false => self.count(few),
+            true if self.one_in(3) => most,
+            true => self.count(*few.end()..=most),
+        }
     }
 
     pub fn coin(&mut self) -> bool {

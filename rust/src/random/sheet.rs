@@ -1,9 +1,7 @@
 //! A sheet in the making: terms and entries, laid out by document 01's tables at the end.
 
 use super::Random;
-
-/// The most terms and the most entries of a sheet.
-pub const LIMIT: usize = 64;
+use crate::sheet::MOST;
 
 /// The number of a term.
 #[derive(Clone, Copy, Debug, PartialEq, Eq)]
@@ -115,11 +113,11 @@ impl Sheet {
     }
 
     pub fn terms_left(&self) -> usize {
-        LIMIT - self.terms.len()
+        MOST - self.terms.len()
     }
 
     pub fn entries_left(&self) -> usize {
-        LIMIT - self.entries.len()
+        MOST - self.entries.len()
     }
 
     /// Takes out one entry, whichever.
@@ -166,7 +164,7 @@ impl Sheet {
 
     /// The sheet byte by byte.
     pub fn bytes(&self) -> Vec<u8> {
-        assert!((1..=LIMIT).contains(&self.terms.len()) && self.entries.len() <= LIMIT);
+        assert!((1..=MOST).contains(&self.terms.len()) && self.entries.len() <= MOST);
         let mut bytes = vec![0, 0, 1, self.terms.len() as u8, self.entries.len() as u8, 0];
         for &term in &self.terms {
             let (kind, symbol, a, b, c) = match term {
@@ -231,7 +229,7 @@ mod tests {
         let mut verdict = |sheet: &Sheet| panel.judge(&sheet.bytes(), &mut [0; ROOM]).0;
         let random = &mut Random::of(1, "order", 0);
         for _ in 0..300 {
-            for sheet in [mix(random), rounds(random, 4)] {
+            for sheet in [mix(random, false), rounds(random, false)] {
                 assert_eq!(verdict(&sheet), verdict(&sheet.clone().shuffled(random)));
             }
         }

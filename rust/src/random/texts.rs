@@ -3,15 +3,13 @@
 
 use super::typist::Typist;
 use super::Random;
+use crate::sheet::MOST;
 
 /// The longest text of a frame.
 pub const LONGEST: usize = 65_536;
 
 /// Bytes that a text can have, or that somebody may type.
 const TYPED: &[u8] = b"xf0123456789()+-,=!<\n\n =x0f(>X\r\t.";
-
-/// The most terms and the most lines.
-const LIMIT: usize = 64;
 
 type Recipe = fn(&mut Random) -> Vec<u8>;
 
@@ -38,17 +36,17 @@ pub const TEXTS: [TextFamily; 13] = [
     },
     TextFamily {
         name: "largest",
-        about: "63 to 65 terms, 63 to 65 lines, or both",
+        about: "as many terms, lines or both as may be, one fewer, or one too many",
         make: largest,
     },
     TextFamily {
         name: "terms",
-        about: "a 65th term, well typed, out of range, cut or spoilt behind it",
+        about: "a term too many, well typed, out of range, cut or spoilt behind it",
         make: terms,
     },
     TextFamily {
         name: "lines",
-        about: "64 lines, and a byte that begins one or none behind them",
+        about: "as many lines as may be, and a byte that begins one or none behind them",
         make: lines,
     },
     TextFamily {
@@ -106,30 +104,34 @@ fn word(random: &mut Random, words: &'static str) -> &'static str {
 
 /// Finds terms that aren't told apart, or take other numbers.
 fn whole(random: &mut Random) -> Vec<u8> {
-    let (terms, lines) = (random.count(1..=20), random.count(1..=8));
+    let large = random.one_in(8);
+    let (terms, lines) = (
+        random.size(large, 1..=20, MOST),
+        random.size(large, 1..=8, MOST),
+    );
     Typist::new(random).filled(terms, lines).text.into_bytes()
 }
 
 /// Finds limits that are off by one.
 fn largest(random: &mut Random) -> Vec<u8> {
-    let close = [LIMIT - 1, LIMIT, LIMIT, LIMIT + 1];
+    let close = [MOST - 1, MOST, MOST, MOST + 1];
     let (terms, lines) = match random.below(3) {
-        0 => (random.pick(&close), random.count(1..=LIMIT)),
-        1 => (random.count(1..=40), random.pick(&close)),
+        0 => (random.pick(&close), random.count(1..=MOST)),
+        1 => (random.count(1..=MOST), random.pick(&close)),
         _ => (random.pick(&close), random.pick(&close)),
     };
     Typist::new(random).filled(terms, lines).text.into_bytes()
 }
 
-/// Finds a 65th term that is seen too late or too early, or given another's fault.
+/// Finds a term too many that is seen too late or too early, or given another's fault.
 fn terms(random: &mut Random) -> Vec<u8> {
     const NEW: &[&str] = &["x0", "0", "x9", "x10", "x25", "x99", "32767", "-32768"];
     const OVER: &str = "x0 x05 x0- x0+5 x0+32768 x00 x9 x10 x100 x99 x990 x 0 05 0+5 -0 - 32767 \
         32768 -32768 -32769 327670 x25+25 x25-25 f256(x25) f255(x25) f7(0,x25) f7(x25,0) f7(0)5 \
         f7(0)x f7(0)+5 f7(0)-32769 f7(0,x25)05";
     let (terms, lines) = (
-        random.pick(&[LIMIT - 2, LIMIT - 1, LIMIT, LIMIT]),
-        random.count(1..=60),
+        random.pick(&[MOST - 2, MOST - 1, MOST, MOST]),
+        random.count(1..=MOST - 4),
     );
     let mut typist = Typist::avoiding(random, NEW).filled(terms, lines);
     let (over, met) = (word(typist.random, OVER), typist.any_met());
@@ -152,11 +154,11 @@ fn terms(random: &mut Random) -> Vec<u8> {
     text
 }
 
-/// Finds a 65th line that is seen too late, or taken for another fault.
+/// Finds a line too many that is seen too late, or taken for another fault.
 fn lines(random: &mut Random) -> Vec<u8> {
     let (terms, lines) = (
-        random.count(1..=50),
-        random.pick(&[LIMIT - 1, LIMIT, LIMIT]),
+        random.count(1..=MOST - 14),
+        random.pick(&[MOST - 1, MOST, MOST]),
     );
     let mut text = Typist::new(random).filled(terms, lines).text.into_bytes();
     match random.below(8) {
@@ -251,8 +253,9 @@ fn again(random: &mut Random) -> Vec<u8> {
     const ALIKE: &str = "x0 x1 x10 1 10 -1 x0+1 x0-1 x0+10 x1+0 x1-0 f0(x0) f0(x0,x0) f0(x0,x1) \
         f0(x1,x0) f1(x0,x1) f10(x0,x1) f1(x0) f10(x0) f0(x0)+1 f0(x0+1) f130(x0,x1) f130(x1,x0) \
         f0(f0(x0),f0(x0)-0)";
+    let large = random.one_in(8);
     let mut typist = Typist::new(random);
-    for _ in 0..typist.random.count(1..=20) {
+    for _ in 0..typist.random.size(large, 1..=20, MOST) {
         let (a, b) = (word(typist.random, ALIKE), word(typist.random, ALIKE));
         typist.line(a, b);
     }
@@ -332,7 +335,8 @@ fn bytes(random: &mut Random) -> Vec<u8> {
 
 /// Finds counts and places that run over, and work that grows with the text's square.
 fn long(random: &mut Random) -> Vec<u8> {
-    let (terms, lines) = (random.pick(&[1, 10, 52, 56, 60]), random.count(1..=10));
+    let close = [1, 10, MOST - 12, MOST - 8, MOST - 4];
+    let (terms, lines) = (random.pick(&close), random.count(1..=10));
     let mut typist = Typist::new(random).filled(terms, lines);
     // A term of two equal terms, again and again: few terms and many bytes.
     let mut term = typist.any_met();
@@ -418,7 +422,7 @@ mod tests {
         let mut room = [0; ROOM];
         for number in 0..1000 {
             let random = &mut Random::of(5, "filled", number);
-            let (terms, lines) = (random.count(1..=LIMIT), random.count(1..=LIMIT));
+            let [terms, lines] = [(); 2].map(|_| random.size(true, 1..=1, MOST));
             let text = Typist::new(random).filled(terms, lines).text;
             assert_eq!(
                 Reader::new().read(text.as_bytes(), &mut room).0,

@@ -2,7 +2,8 @@
 
 use super::Random;
 
-/// How deep the terms go that are taken as parts of others: little enough for 16 in all.
+/// How deep the terms go that are taken as parts of others. A term with 8 new ones in it goes at
+/// most 8 deeper, and halves make one with 129 of it that goes 4 deeper still: 16 in all.
 const SHALLOW: usize = 4;
 
 /// A term as it is typed.

@@ -1,8 +1,9 @@
 //! The recipes for sheets that are sent back, and for those that only just aren't.
 
 use super::judged::{any, mix};
-use super::sheet::{state_length, LIMIT};
+use super::sheet::state_length;
 use super::Random;
+use crate::sheet::{LONGEST, MOST};
 
 // The bytes of the head, and of a record.
 const SIX: usize = 6;
@@ -14,10 +15,10 @@ pub fn fields(random: &mut Random) -> Vec<u8> {
     }
     // A panel may go wrong in late records only, so some sheets have many.
     let sheet = if random.one_in(3) {
-        let [terms, entries] = [(); 2].map(|_| random.pick(&[LIMIT, LIMIT, LIMIT - 1, LIMIT / 2]));
+        let [terms, entries] = [(); 2].map(|_| random.pick(&[MOST, MOST, MOST - 1, MOST / 2]));
         any(random, terms, entries)
     } else {
-        mix(random)
+        mix(random, false)
     };
     let (terms, entries) = (sheet.terms.len(), sheet.entries.len());
     let mut bytes = sheet.bytes();
@@ -40,9 +41,10 @@ pub fn fields(random: &mut Random) -> Vec<u8> {
     bytes
 }
 
-/// T and L at their limits and over them, with as many records, all zero.
+/// T and L at their limits, over them and halfway, with as many records, all zero.
 fn sizes(random: &mut Random) -> Vec<u8> {
-    let [terms, entries] = [(); 2].map(|_| random.pick(&[0, 1, LIMIT - 1, LIMIT, LIMIT + 1, 255]));
+    let close = [0, 1, MOST / 2, MOST / 2 + 1, MOST - 1, MOST, MOST + 1, 255];
+    let [terms, entries] = [(); 2].map(|_| random.pick(&close));
     let mut bytes = vec![0, 0, 1, terms as u8, entries as u8, 0];
     bytes.resize(SIX + SIX * (terms + entries), 0);
     state_length(&mut bytes);
@@ -90,11 +92,12 @@ fn field(random: &mut Random, record: &mut [u8], above: u8) {
 
 /// Finds reads past the end, and bytes that are taken for a sheet.
 pub fn bytes(random: &mut Random) -> Vec<u8> {
-    let mut bytes = mix(random).bytes();
+    let large = random.one_in(8);
+    let mut bytes = mix(random, large).bytes();
     match random.below(5) {
         0 => bytes.truncate(random.below(bytes.len())),
         1 => {
-            let more = random.pick(&[1, SIX, 2 * SIX, 3000]);
+            let more = random.pick(&[1, SIX, 2 * SIX, LONGEST]);
             bytes.resize(bytes.len() + more, random.pick(&[0, 1, 0xAA]));
         }
         2 => {
@@ -102,7 +105,7 @@ pub fn bytes(random: &mut Random) -> Vec<u8> {
             bytes[at] ^= 1 << random.below(8);
         }
         3 => {
-            let most = random.pick(&[8, 100, 800, 800, 4096]);
+            let most = random.pick(&[8, 100, LONGEST + SIX, LONGEST + SIX, 4096]);
             bytes = (0..random.count(0..=most))
                 .map(|_| random.below(256) as u8)
                 .collect();
@@ -131,7 +134,8 @@ mod tests {
             .filter_map(|number| refusal(&fields(&mut Random::of(5, "fields", number)), ROOM))
             .collect();
         for wrong in [13, 14] {
-            let late = |&(number, place): &(u8, u16)| number == wrong && place > 40;
+            let late =
+                |&(number, place): &(u8, u16)| number == wrong && usize::from(place) > 3 * MOST / 4;
             assert!(refusals.iter().any(late), "no late {wrong}");
         }
     }

@@ -11,11 +11,12 @@ mod typed;
 
 pub use slip::Slip;
 
+use crate::sheet::LONGEST;
 use pieces::{pieces, Kind, Piece};
 use std::cmp::Reverse;
 
 /// The room that is enough for every sheet.
-pub const ROOM: usize = 774;
+pub const ROOM: usize = LONGEST;
 
 /// The most brackets that may be open at once.
 const DEEPEST: usize = 16;

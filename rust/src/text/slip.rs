@@ -34,13 +34,13 @@ pub enum Slip {
     LastDigit,
     /// Gives 23 before 22 at one byte.
     TermFirst,
-    /// Sends a 65th term back a byte late.
+    /// Sends a term too many back a byte late.
     TermLate,
     /// Completes x0 at the 0 of x05.
     ZeroEnds,
-    /// Sends a 65th line back a byte late.
+    /// Sends a line too many back a byte late.
     LineLate,
-    /// Sends a 65th line back with 23 whatever its first byte is.
+    /// Sends a line too many back with 23 whatever its first byte is.
     AnyLine,
     /// Takes x0-0 for another term than x0+0.
     TwoZeros,
@@ -54,9 +54,9 @@ pub enum Slip {
     UnknownsFirst,
     /// Puts the shift behind a comparison into the entry.
     ShiftInEntry,
-    /// Takes a room of 773 bytes.
+    /// Takes a room that is a byte too small.
     RoomUnder,
-    /// Sends back a room of 774 bytes.
+    /// Sends back a room that is just large enough.
     RoomOver,
     /// Looks at the room after the text.
     RoomLast,

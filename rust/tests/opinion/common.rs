@@ -26,7 +26,7 @@ pub enum Answer {
     Refused(u8, u16),
 }
 
-/// Judges a sheet in a room of 520 bytes, and checks the form of the record and that the rest of
+/// Judges a sheet in a room of 1,032 bytes, and checks the form of the record and that the rest of
 /// the room is left alone.
 pub fn answer(panel: &mut Panel, sheet: &[u8]) -> Answer {
     let mut room = [0xAA; ROOM];

@@ -2,7 +2,7 @@
 
 use crate::common::{answer, sheet, Answer, Line};
 use second::meaning::broken;
-use second::sheet::refusal;
+use second::sheet::{refusal, LONGEST, ROOM};
 use second::{Panel, Shortcut};
 use std::fs;
 use std::path::PathBuf;
@@ -14,7 +14,7 @@ fn sheets() -> PathBuf {
 /// A sheet, or as much of it as the small program reads.
 fn read(name: &str) -> Vec<u8> {
     let mut bytes = fs::read(sheets().join(format!("{name}.sheet"))).unwrap();
-    bytes.truncate(775);
+    bytes.truncate(1_543);
     bytes
 }
 
@@ -70,10 +70,10 @@ fn sheet_1_gets_the_record_that_the_document_writes_out() {
     let record = [
         0x00, 0x0B, 0x01, 0x01, 0x00, 0x03, 0x00, 0x00, 0x00, 0x01, 0x02,
     ];
-    let mut room = [0; 600];
+    let mut room = [0; 1_100];
     assert_eq!(Panel::new().judge(&bytes, &mut room), (1, 11));
     assert_eq!(room[..11], record);
-    assert_eq!(room[11..], [0; 589]);
+    assert_eq!(room[11..], [0; 1_089]);
 }
 
 const UNKNOWN: Line = (0, 0, 0, 0, 0);
@@ -97,9 +97,9 @@ fn each_ground_of_refusal_is_given_with_its_place_and_the_first_that_applies_win
     case(&[(2, 2)], 11, 0);
     case(&[(2, 0), (3, 0)], 11, 0);
     case(&[(3, 0)], 12, 0);
-    case(&[(3, 65)], 12, 0);
+    case(&[(3, 129)], 12, 0);
     case(&[(3, 3), (4, 2)], 12, 0);
-    case(&[(4, 65)], 12, 0);
+    case(&[(4, 129)], 12, 0);
     case(&[(5, 1), (6, 9)], 12, 0);
     for at in 7..12 {
         case(&[(at, 1)], 13, 0);
@@ -114,16 +114,16 @@ fn each_ground_of_refusal_is_given_with_its_place_and_the_first_that_applies_win
     case(&[(27, 2)], 14, 1);
     case(&[(26, 2), (20, 2)], 14, 0);
     for (bytes, refused) in cases {
-        assert_eq!(refusal(&bytes, 520), refused, "{bytes:?}");
+        assert_eq!(refusal(&bytes, 1_032), refused, "{bytes:?}");
         assert_eq!(
-            refusal(&bytes, 519),
+            refusal(&bytes, 1_031),
             Some(refused.unwrap_or((15, 0))),
             "{bytes:?}"
         );
     }
     for length in 0..good.len() {
         assert_eq!(
-            refusal(&good[..length], 520),
+            refusal(&good[..length], 1_032),
             Some((10, 0)),
             "cut to {length} bytes"
         );
@@ -131,12 +131,63 @@ fn each_ground_of_refusal_is_given_with_its_place_and_the_first_that_applies_win
 }
 
 #[test]
-fn a_refused_sheet_leaves_the_room_alone_and_a_room_of_519_bytes_is_too_small() {
-    let mut room = [0xAA; 519];
+fn sizes_up_to_128_are_read_and_129_is_sent_back() {
+    assert_eq!((LONGEST, ROOM), (1_542, 1_032));
+    let sizes = [0, 1, 63, 64, 65, 127, 128, 129, 255];
+    for (t, l) in sizes.map(|t| sizes.map(|l| (t, l))).concat() {
+        let bytes = sheet(&vec![UNKNOWN; t], &vec![(2, 0, 0, 0, 0); l]);
+        let refused = (t == 0 || t > 128 || l > 128).then_some((12, 0));
+        assert_eq!(refusal(&bytes, 1_032), refused, "T {t}, L {l}");
+        assert_eq!(
+            refusal(&bytes, 1_031),
+            refused.or(Some((15, 0))),
+            "T {t}, L {l}"
+        );
+    }
+    assert_eq!(sheet(&[UNKNOWN; 128], &[(2, 0, 0, 0, 0); 128]).len(), 1_542);
+}
+
+#[test]
+fn late_records_of_the_largest_sheets_are_looked_at_too() {
+    let good = sheet(&[UNKNOWN; 128], &[(2, 0, 127, 127, 0); 128]);
+    assert_eq!(refusal(&good, 1_032), None);
+    for own in [0, 63, 64, 127] {
+        let mut bytes = good.clone();
+        bytes[6 + 6 * own] = 5;
+        assert_eq!(refusal(&bytes, 1_032), Some((13, own as u16)));
+        // A term's arguments lie below it, and an entry's below T.
+        bytes[6 + 6 * own..][..4].copy_from_slice(&[3, 7, own as u8, 0]);
+        assert_eq!(refusal(&bytes, 1_032), Some((13, own as u16)));
+        for at in [2, 3] {
+            let mut bytes = good.clone();
+            bytes[6 + 6 * (128 + own) + at] = 128;
+            assert_eq!(refusal(&bytes, 1_032), Some((14, own as u16)));
+        }
+    }
+}
+
+#[test]
+fn the_largest_answers_fill_the_room() {
+    // 128 unknowns, each under the next.
+    let under = |own: u8| (3, 0, own, (own + 1) % 128, 0);
+    let entries: Vec<Line> = (0..128).map(under).collect();
+    let mut room = [0xAA; 1_032];
+    let holds = sheet(&[UNKNOWN; 128], &entries[..127]);
+    assert_eq!(Panel::new().judge(&holds, &mut room), (0, 1_032));
+    assert_eq!(room[..4], [4, 8, 1, 0]);
+    let clashes = sheet(&[UNKNOWN; 128], &entries);
+    assert_eq!(Panel::new().judge(&clashes, &mut room), (1, 136));
+    assert_eq!(room[..8], [0, 136, 1, 1, 0, 128, 0, 0]);
+    assert!(room[8..136].iter().copied().eq(0..128));
+}
+
+#[test]
+fn a_refused_sheet_leaves_the_room_alone_and_a_room_of_1031_bytes_is_too_small() {
+    let mut room = [0xAA; 1_031];
     for name in ["01", "02", "r10a", "r11a", "r12a", "r13a", "r14a"] {
         let (number, _) = Panel::new().judge(&read(name), &mut room);
         assert!(number >= 10, "sheet {name}");
-        assert_eq!(room, [0xAA; 519], "sheet {name}");
+        assert_eq!(room, [0xAA; 1_031], "sheet {name}");
     }
 }
 

@@ -7,3 +7,4 @@ mod naive;
 mod program;
 mod random;
 mod texts;
+mod wide;

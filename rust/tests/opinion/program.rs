@@ -87,7 +87,7 @@ fn one_text_gets_one_line() {
         (b"x0<=x1\n", "holds\n"),
         (b"x0<=x1", "refused 20 at 6\n"),
         (b"", "refused 20 at 0\n"),
-        (&longest[..65_535], "refused 23 at 384\n"),
+        (&longest[..65_535], "refused 23 at 768\n"),
         (&longest, "longer than 65535 bytes\n"),
     ] {
         let output = run(&["typed"], text);
@@ -112,24 +112,24 @@ fn text_answer(reader: Reader, room: u16, text: &[u8]) -> Vec<u8> {
 fn a_batch_of_texts_answers_every_whole_frame_before_one_cut_short_or_too_large() {
     let long = vec![b'x'; 65_536];
     let asked: [(u16, &[u8]); 6] = [
-        (774, b"x0<=x1\n"),
-        (773, b"x0<=x1\n"),
+        (1_542, b"x0<=x1\n"),
+        (1_541, b"x0<=x1\n"),
         (0, b""),
-        (774, b""),
+        (1_542, b""),
         (2048, &long),
         (2048, b"f7(x0)=x0+1\n"),
     ];
     let frames = asked.map(|(room, text)| text_frame(room, text)).concat();
     let answers = asked.map(|(room, text)| text_answer(Reader::new(), room, text));
     let answers = answers.concat();
-    let cut = &text_frame(774, b"x0=x1\n")[..11];
+    let cut = &text_frame(1_542, b"x0=x1\n")[..11];
     let too_large = text_frame(2049, b"x0=x1\n");
-    let too_long = text_frame(774, &[b'x'; 65_537]);
+    let too_long = text_frame(1_542, &[b'x'; 65_537]);
     for end in [
         &[][..],
-        &[3],
-        &[3, 6],
-        &[3, 6, 0, 0, 0],
+        &[6],
+        &[6, 6],
+        &[6, 6, 0, 0, 0],
         cut,
         &too_large,
         &too_long,
@@ -143,8 +143,8 @@ fn a_batch_of_texts_answers_every_whole_frame_before_one_cut_short_or_too_large(
 #[test]
 fn a_batch_of_texts_may_make_a_slip() {
     let (slip, text) = (Slip::from_name("again").unwrap(), b"x0=x0\n");
-    let output = run(&["batch_text", "again"], &text_frame(774, text));
-    assert_eq!(output.stdout, text_answer(Reader::with(slip), 774, text));
+    let output = run(&["batch_text", "again"], &text_frame(1_542, text));
+    assert_eq!(output.stdout, text_answer(Reader::with(slip), 1_542, text));
 }
 
 #[test]

@@ -34,9 +34,14 @@ fn reads(text: &str, terms: &[Line], entries: &[Line]) {
 
 const X: Line = (0, 0, 0, 0, 0);
 
-/// Lines that compare x0, x1, .. with the next, for so many terms, an even number.
+/// Lines of two new terms each, for so many terms, an even number: x0 to x63, so that there are
+/// other unknowns, and then the numbers from 1064 on.
 fn pairs(terms: usize) -> String {
-    let pair = |i| format!("x{}<x{}\n", 2 * i, 2 * i + 1);
+    let term = |i| match i {
+        0..=63 => format!("x{i}"),
+        _ => format!("{}", 1000 + i),
+    };
+    let pair = |i| format!("{}<{}\n", term(2 * i), term(2 * i + 1));
     (0..terms / 2).map(pair).collect()
 }
 
@@ -371,8 +376,8 @@ fn an_opening_bracket_that_goes_deeper_than_16_has_21() {
 }
 
 #[test]
-fn the_last_byte_of_a_65th_term_has_23() {
-    let full = pairs(64);
+fn the_last_byte_of_a_129th_term_has_23() {
+    let full = pairs(128);
     let before = full.len();
     assert!(read(full.as_bytes()).is_ok());
     assert!(read((full.clone() + "x63<x0\n").as_bytes()).is_ok());
@@ -415,8 +420,29 @@ fn the_last_byte_of_a_65th_term_has_23() {
 }
 
 #[test]
+fn a_65th_term_and_a_65th_line_are_read() {
+    let terms = pairs(64) + "x64<x0\n";
+    assert_eq!(read(terms.as_bytes()).unwrap()[3..5], [65, 33]);
+    let lines = "x0=x1\n".repeat(65);
+    assert_eq!(read(lines.as_bytes()).unwrap()[3..5], [2, 65]);
+}
+
+#[test]
+fn terms_past_the_64th_and_the_100_unknowns_keep_their_numbers() {
+    // x0 to x99 are terms 0 to 99, and x0+1 to x27+1 are terms 100 to 127.
+    let unknowns: String = (0..50)
+        .map(|i| format!("x{}<x{}\n", 2 * i, 2 * i + 1))
+        .collect();
+    let shifts: String = (0..28).map(|i| format!("x{i}+1<x99\n")).collect();
+    let typed = read((unknowns + &shifts + "x27+1=x64\n").as_bytes()).unwrap();
+    assert_eq!(typed[3..5], [128, 79]);
+    assert_eq!(typed[6 + 6 * 127..][..6], [2, 0, 27, 0, 0, 1]);
+    assert_eq!(typed[6 + 6 * (128 + 78)..], [0, 0, 127, 64, 0, 0]);
+}
+
+#[test]
 fn digits_are_one_number_as_long_as_they_go_on() {
-    let full = pairs(64);
+    let full = pairs(128);
     let before = full.len();
     // x6 and x64 would be in time, and 7 of 77 isn't completed.
     refused(&(full.clone() + "x6"), 20, before + 2);
@@ -439,7 +465,7 @@ fn digits_are_one_number_as_long_as_they_go_on() {
 
 #[test]
 fn at_one_byte_22_comes_before_23() {
-    let full = pairs(64);
+    let full = pairs(128);
     let before = full.len();
     for (line, number, last) in [
         ("x100<x0\n", 22, 3),
@@ -460,8 +486,8 @@ fn at_one_byte_22_comes_before_23() {
 }
 
 #[test]
-fn the_first_byte_of_a_65th_line_has_23_and_one_that_begins_no_line_20() {
-    let full = "x0=x1\n".repeat(64);
+fn the_first_byte_of_a_129th_line_has_23_and_one_that_begins_no_line_20() {
+    let full = "x0=x1\n".repeat(128);
     let before = full.len();
     assert!(read(full.as_bytes()).is_ok());
     for behind in [
@@ -483,7 +509,7 @@ fn the_first_byte_of_a_65th_line_has_23_and_one_that_begins_no_line_20() {
     ] {
         refused(&(full.clone() + behind), 20, before);
     }
-    // A 64th line that isn't whole.
+    // A 128th line that isn't whole.
     refused(full.trim_end(), 20, before - 1);
     refused(&(full.trim_end().to_string() + " "), 20, before - 1);
 }
@@ -502,38 +528,42 @@ fn the_earliest_fault_counts() {
     let deep = "f7(".repeat(17);
     refused(&format!("x100={deep}"), 22, 3);
     refused(&format!("x10={deep}x100"), 21, 4 + 50);
-    refused(&format!("{}{deep}", pairs(64)), 21, pairs(64).len() + 50);
-    refused(&format!("{}x64={deep}", pairs(64)), 23, pairs(64).len() + 2);
+    refused(&format!("{}{deep}", pairs(128)), 21, pairs(128).len() + 50);
+    refused(
+        &format!("{}x64={deep}", pairs(128)),
+        23,
+        pairs(128).len() + 2,
+    );
 }
 
 #[test]
-fn a_room_under_774_bytes_is_looked_at_first() {
+fn a_room_under_1542_bytes_is_looked_at_first() {
     for text in ["x0=x1\n", "", "x100=x0\n", " "] {
-        for size in [0, 1, 6, 30, 773] {
+        for size in [0, 1, 6, 30, 773, 774, 1_032, 1_541] {
             let mut room = vec![0xAA; size];
             assert_eq!(Reader::new().read(text.as_bytes(), &mut room), (24, 0));
             assert_eq!(room, vec![0xAA; size], "{text:?}");
         }
     }
-    let mut room = [0xAA; 774];
+    let mut room = [0xAA; 1_542];
     assert_eq!(Reader::new().read(b"x0=x1\n", &mut room), (0, 24));
     assert_eq!(room[..24], sheet(&[X, X], &[(0, 0, 0, 1, 0)])[..]);
-    assert_eq!(room[24..], [0xAA; 750]);
+    assert_eq!(room[24..], [0xAA; 1_518]);
 }
 
 #[test]
-fn the_longest_sheet_fills_a_room_of_774_bytes() {
-    let text = pairs(64) + &"x0=x1\n".repeat(32);
-    let mut room = [0xAA; 774];
-    assert_eq!(Reader::new().read(text.as_bytes(), &mut room), (0, 774));
-    assert_eq!(room[..6], [3, 6, 1, 64, 64, 0]);
+fn the_longest_sheet_fills_a_room_of_1542_bytes() {
+    let text = pairs(128) + &"x0=x1\n".repeat(64);
+    let mut room = [0xAA; 1_542];
+    assert_eq!(Reader::new().read(text.as_bytes(), &mut room), (0, 1_542));
+    assert_eq!(room[..6], [6, 6, 1, 128, 128, 0]);
 }
 
 #[test]
 fn a_sheet_that_is_typed_is_never_sent_back() {
     let text = "f7(f8(x1,x0)+2,3)!=x0\nx0<=-5\n";
     let typed = read(text.as_bytes()).unwrap();
-    assert_eq!(second::sheet::refusal(&typed, 520), None);
+    assert_eq!(second::sheet::refusal(&typed, 1_032), None);
 }
 
 #[test]
@@ -546,8 +576,8 @@ fn slips_are_found_by_their_names() {
 
 #[test]
 fn each_slip_is_wrong_on_a_text_that_goes_by_its_sentence() {
-    let full = pairs(64);
-    let (no_x0, lines) = (full.replace("x0<", "x99<"), "x0=x1\n".repeat(64));
+    let full = pairs(128);
+    let (no_x0, lines) = (full.replace("x0<", "x99<"), "x0=x1\n".repeat(128));
     for (slip, text) in [
         (Slip::LeadingZero, "x05=x1\n"),
         (Slip::MinusZero, "x0=-0\n"),
@@ -585,8 +615,8 @@ fn each_slip_is_wrong_on_a_text_that_goes_by_its_sentence() {
         assert_ne!(wrong, right, "{slip:?}");
     }
     for (slip, text, room) in [
-        (Slip::RoomUnder, "x0=x1\n", 773),
-        (Slip::RoomLast, "x05=x1\n", 773),
+        (Slip::RoomUnder, "x0=x1\n", 1_541),
+        (Slip::RoomLast, "x05=x1\n", 1_541),
     ] {
         let answer = Reader::with(slip).read(text.as_bytes(), &mut vec![0; room]);
         assert_ne!(answer, (24, 0), "{slip:?}");

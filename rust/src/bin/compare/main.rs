@@ -1,6 +1,7 @@
 //! Compares a panel with the independent one on seeded random sheets. The panel is any command
-//! that answers frames: two bytes of length and a sheet in, 523 bytes of number, place and answer
-//! room out. The rules are document 01's; the independent panel is this package's library.
+//! that answers frames: two bytes of length and a sheet in; the number, the place in two bytes and
+//! the whole answer room out. The rules are document 01's; the independent panel is this package's
+//! library.
 
 mod answer;
 mod report;

@@ -11,6 +11,7 @@ use second::comparing::ask::{Ask, Choice};
 use second::comparing::tested::{Question, Silence, Tested};
 use second::random::texts::{TextFamily, TEXTS};
 use second::random::Random;
+use second::sheet;
 use second::text::{Reader, Slip, ROOM};
 use std::io::{self, Write};
 use std::process::ExitCode;
@@ -48,7 +49,7 @@ impl Sent {
     fn new(seed: u64, family: usize, number: u64) -> Sent {
         let random = &mut Random::of(seed, "rooms", number * TEXTS.len() as u64 + family as u64);
         let room = match random.below(16) {
-            0 => random.pick(&[0, 1, 6, 520, ROOM - 1, ROOM - 1, ROOM - 1, ROOM - 1]),
+            0 => random.pick(&[0, 1, 6, sheet::ROOM, ROOM - 1, ROOM - 1, ROOM - 1, ROOM - 1]),
             1 => random.below(ROOM),
             2 => random.count(ROOM..=2048),
             3 => random.pick(&[ROOM + 1, 2048]),

@@ -2,6 +2,8 @@
 
 use super::HEAD;
 use second::random::words::words;
+use second::sheet::MOST;
+use second::text::ROOM;
 
 /// Bytes of a long text that are shown before and behind a place.
 const AROUND: usize = 120;
@@ -80,13 +82,14 @@ pub fn hex(text: &[u8], expected: &[u8]) -> Vec<String> {
 /// What is said of the byte at the place of a refusal.
 pub fn at(text: &[u8], answer: &[u8]) -> Vec<String> {
     let (number, place) = (answer[0], place(answer));
+    let over = MOST + 1;
     let why = match number {
-        20 if place == text.len() => "the text ends too early",
-        20 => "no text of the form begins so",
-        21 => "a bracket that goes deeper than 16",
-        22 => "a digit that takes a number out of range",
-        23 => "the last byte of a 65th term, or the first of a 65th line",
-        24 => "a room under 774 bytes",
+        20 if place == text.len() => String::from("the text ends too early"),
+        20 => String::from("no text of the form begins so"),
+        21 => String::from("a bracket that goes deeper than 16"),
+        22 => String::from("a digit that takes a number out of range"),
+        23 => format!("the last byte of a {over}th term, or the first of a {over}th line"),
+        24 => format!("a room under {ROOM} bytes"),
         _ => return Vec::new(),
     };
     let byte = text.get(place).map_or(String::new(), |byte| {
