@@ -6,7 +6,6 @@ use mathlib.Core.List.{List}
 use lib.Dec.{eqb}
 use lib.ListN.{getD}
 use Rattle.notes.specs.Limits.{places, memory, slacks, denominator}
-use Rattle.notes.specs.Noted.{pointOne, weightOne}
 
 -- the bound that lowered point y last
 abbrev pub lastOf : (m : List ℕ) (y : ℕ) → ℕ
@@ -14,11 +13,11 @@ lastOf m y = getD m (getD m (places + y) 0 % memory) 0
 
 -- the point that it goes on to
 abbrev pub nextOf : (m : List ℕ) (y : ℕ) → ℕ
-nextOf m y = lastOf m y / pointOne % places
+nextOf m y = lastOf m y / places % places
 
 -- by how much it lets a point be over the next
 abbrev pub weightOf : (m : List ℕ) (y : ℕ) → ℕ
-weightOf m y = lastOf m y / weightOne % 2 ^ 44
+weightOf m y = lastOf m y / places ^ 2 % 2 ^ 44
 
 -- its c, biased, in parts of the slacks, and one more where its slack is even, so that it isn't strict
 abbrev pub stepOf : (m : List ℕ) (y : ℕ) → ℕ
