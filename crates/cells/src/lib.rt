@@ -1,5 +1,6 @@
 // The cells of a table in a lent slice: a gap read, a row taken out by value, filled, started, relaxed.
-// It rests on the gap kind and on the limit of terms, and promises of each call which cells it changes and that it leaves all others as they are.
+// It rests on the gap kind and on the limit of terms, and promises of each call which cells it changes and that it leaves all others as
+// they are.
 ghost use mathlib.Core.Path.{_≡_};
 ghost use Prim.Native.Nat.{ℕ, _+_, _≤_, _<_};
 ghost use lib.ListN.{length, getD};

@@ -47,7 +47,7 @@ pub const SLACKS: usize = 1024;
 pub const D: usize = 65535 / SLACKS * SLACKS;
 
 // A slack is even or odd by the entry's kind, and else one of so many. The slacks of all entries together stay below D, so that a circle of
-// bounds with room for a whole number has room for them: on average one is about this large.
+// bounds with room for a whole number has room for them: on average one is about this large, and six are to spare for uneven ones.
 const STEPS: usize = D / sheet::MAX_ENTRIES - 6;
 
 // A bound's weight without slack is this much more than its c, biased, in parts of D.

@@ -15,8 +15,8 @@ use Rattle.order.proofs.Marks.{number-leaves, number-keeps}
 use Rattle.sheet.specs.Decode.{sheetOf}
 use Rattle.sheet.specs.Sheet.{countEntries}
 use Rattle.meaning.specs.Meaning.{Clashes}
-use Rattle.settled.specs.Settled.{points}
 use Rattle.meaning.proofs.Meaning.{clashes-upward}
+use Rattle.settled.specs.Settled.{points}
 use Rattle.blame.proofs.leave_out.Statement.{statement}
 use Rattle.blame.proofs.leave_out.Tie as tie
 
