@@ -1,7 +1,11 @@
-//! What the timer and the fuzzer share: the archive's call for texts, and a quick reader to time it
-//! against.
+//! What the timers and the fuzzer share: the archive's call for texts, a quick reader to time it
+//! against, and how calls are timed.
 
 pub mod quick;
+pub mod timing;
+
+/// The numbers of terms that are timed.
+pub const SIZES: [usize; 4] = [16, 32, 64, second::sheet::MOST];
 
 #[cfg(feature = "panel")]
 pub use archive::transcribe;

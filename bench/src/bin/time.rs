@@ -8,7 +8,8 @@
 //! A verdict is a call on a sheet that holds, and so makes no list; a first list is a call on one
 //! that clashes. A reading is a call on a text that is one, and its size the text's bytes.
 
-use bench::quick;
+use bench::timing::{side_by_side, Side};
+use bench::{quick, SIZES};
 use second::random::sheet::{Kind, Sheet, Term, TermRecord};
 use second::random::texts::TEXTS;
 use second::random::Random;
@@ -16,9 +17,6 @@ use second::sheet::{MOST, ROOM};
 use second::text::{Reader, ROOM as SHEET_ROOM};
 use second::Panel;
 use std::fmt::Write;
-use std::time::{Duration, Instant};
-
-const SIZES: [usize; 4] = [16, 32, 64, MOST];
 
 fn main() {
     match std::env::args().nth(1).as_deref() {
@@ -199,9 +197,6 @@ fn time(name: &str, sheet: &[u8]) {
     side_by_side(name, [proved(sheet), Some(Box::new(independent))], right.1);
 }
 
-/// One side: a call of it gives the place.
-type Side<'a> = Option<Box<dyn FnMut() -> u16 + 'a>>;
-
 /// Stops where the proved panel says something else than the independent one, with this number,
 /// place and room: times of different answers couldn't be compared. Values are free, so of those
 /// only the length is held to the other's.
@@ -227,7 +222,7 @@ fn compare(_: &str, _: &[u8], _: (u8, u16), _: &[u8]) {}
 
 /// Calls of the proved panel.
 #[cfg(feature = "panel")]
-fn proved(sheet: &[u8]) -> Side {
+fn proved(sheet: &[u8]) -> Side<'_> {
     let mut room = [0; ROOM];
     Some(Box::new(move || {
         baruvkesh::judge(sheet, &mut room).place() as u16
@@ -235,48 +230,8 @@ fn proved(sheet: &[u8]) -> Side {
 }
 
 #[cfg(not(feature = "panel"))]
-fn proved(_: &[u8]) -> Side {
+fn proved(_: &[u8]) -> Side<'_> {
     None
-}
-
-/// Prints the least time of a call of each over many turns, which go from one side to the next.
-fn side_by_side<const SIDES: usize>(name: &str, mut sides: [Side; SIDES], place: u16) {
-    let mut least = [u64::MAX; SIDES];
-    for _ in 0..15 {
-        for (side, least) in sides.iter_mut().zip(&mut least) {
-            if let Some(call) = side {
-                *least = per_call(call, place).min(*least);
-            }
-        }
-    }
-    let times = sides.iter().zip(least).map(|(side, least)| match side {
-        Some(_) => format!("\t{least}"),
-        None => "\t-".to_string(),
-    });
-    println!("{name}{}", times.collect::<String>());
-}
-
-/// Nanoseconds of a call, over as many as take a few milliseconds. The places are added up and
-/// checked, so that no call can be left out.
-fn per_call(call: &mut dyn FnMut() -> u16, place: u16) -> u64 {
-    let start = Instant::now();
-    let (mut calls, mut places) = (0, 0);
-    // looking at the clock takes time too, and a slow call is enough by itself
-    let mut turn = 1;
-    while start.elapsed() < Duration::from_millis(4) {
-        for _ in 0..turn {
-            places += u64::from(call());
-        }
-        calls += turn;
-        turn = 16.min(2 * turn);
-    }
-    let time = start.elapsed();
-    assert_eq!(
-        places,
-        calls * u64::from(place),
-        "a call answered differently"
-    );
-    time.as_nanos() as u64 / calls
 }
 
 fn texts() {

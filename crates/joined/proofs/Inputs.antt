@@ -2,14 +2,14 @@
 -- Assumes nothing.
 use Prim.Native.Nat.{ℕ, zero, suc, _≤_, _<_}
 use mathlib.Core.Path.{_≡_, refl, sym, _∙_}
-use mathlib.Core.Bool.{Bool, true, false, not, _||_, _&&_, true≢false}
+use mathlib.Core.Bool.{Bool, true, false, not, _||_, true≢false}
 use mathlib.Core.Logic.{⊎-elim}
-use lib.Dec.{ltb, leb, eqb}
+use lib.Dec.{ltb, eqb}
 use lib.IntN.{pos}
 use lib.ListN.{getD}
 use native.Mathlib.Nat.{eq-or-lt-of-le}
 use native.Mathlib.Omega.{arith}
-use borrow.Author.Tests.{ltb-false, eqb-true, eqb-false, le-ltb, le-leb, lt-leb, eq-eqb, not-false}
+use borrow.Author.Tests.{ltb-false, eqb-true, eqb-false, le-ltb, eq-eqb, not-false}
 use Rattle.closure.specs.Closed.{TiedAt}
 use Rattle.sheet.specs.declared.Fields.{Fields}
 use Rattle.sheet.specs.Decode.{termKinds, decodeTerm}
@@ -18,7 +18,7 @@ use Rattle.sheet.proofs.Below.{argument, arguments}
 use Rattle.meaning.specs.Meaning.{one, two}
 use Rattle.meaning.specs.Decides.{Decides}
 use Rattle.meaning.proofs.Decides.{told}
-use Rattle.joined.specs.Joined.{isApplication, Joined}
+use Rattle.joined.specs.Joined.{Joined}
 
 -- the terms that a record of kind 3 or 4 makes, and no other does
 is-one : (f : Fields) → f .kind ≡ 3 → decodeTerm f ≡ apply (f .symbol) (f .a)
@@ -52,18 +52,6 @@ of-two f {g} {a} {b} = go (f .kind) refl
     go (suc (suc (suc zero))) e h = let z : _≡_ {A = ℕ} 0 1 = cc in absurd (omega arith)
     go (suc (suc (suc (suc zero)))) e h = (e, cc, cc, cc)
     go (suc (suc (suc (suc (suc k))))) e h = let z : _≡_ {A = ℕ} 0 1 = cc in absurd (omega arith)
-
-pub application : (f : Fields) → leb 3 (f .kind) && leb (f .kind) 4 ≡ isApplication (decodeTerm f)
-unfolding decodeTerm
-application f = go (f .kind)
-  where
-    go : (k : ℕ) → leb 3 k && leb k 4 ≡ isApplication (getD (termKinds f) k unknown)
-    go zero = refl
-    go (suc zero) = refl
-    go (suc (suc zero)) = refl
-    go (suc (suc (suc zero))) = refl
-    go (suc (suc (suc (suc zero)))) = refl
-    go (suc (suc (suc (suc (suc k))))) = rw (le-leb 3 (suc (suc (suc (suc (suc k))))) (omega arith), lt-leb (suc (suc (suc (suc (suc k))))) 4 (omega arith))
 
 -- two records of one kind and symbol, the kind 3 or 4
 pub record OneSymbol (t u : Fields) : Type 0 where
@@ -156,7 +144,3 @@ module _ {d : ℕ → ℕ → ℕ} {t u : Fields} where
     two-told n =
         let e = four O n in
         told (λ s. rw (is-two t (e .0), is-two u (e .1), O .symbol) (two first s)) (λ J. says J .second (e .0))
-
-pub no-input : {d : ℕ → ℕ → ℕ} {t u : Term} → isApplication t ≡ false → Joined d t u → ⊥
-no-input e (one p) = true≢false e
-no-input e (two p q) = true≢false e

@@ -1,19 +1,10 @@
 -- When a table says that two terms have the same input.
 -- Assumes nothing.
 use Prim.Native.Nat.{ℕ}
-use mathlib.Core.Bool.{Bool, true, false}
 use lib.IntN.{pos}
 use Rattle.closure.specs.Closed.{TiedAt}
-use Rattle.sheet.specs.Sheet.{Term, unknown, number, shift, apply, apply2, Sheet, termAt}
+use Rattle.sheet.specs.Sheet.{Term, Sheet, termAt}
 use Rattle.meaning.specs.Meaning.{SameInput}
-
--- a term of kind 3 or 4: no other has an input
-abbrev pub isApplication : Term → Bool
-isApplication unknown = false
-isApplication (number c) = false
-isApplication (shift a c) = false
-isApplication (apply symbol a) = true
-isApplication (apply2 symbol a b) = true
 
 -- the table says that the two terms have the same input
 abbrev pub Joined : (ℕ → ℕ → ℕ) → Term → Term → Type 0

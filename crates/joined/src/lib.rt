@@ -11,19 +11,10 @@ ghost use Rattle.sheet.specs.Decode.{Sized, decodeTerm, sheetOf};
 ghost use Rattle.sheet.specs.Sheet.{ArgumentsBelow, WellFormed, countTerms, termAt};
 ghost use Rattle.meaning.specs.Decides.{Decides};
 ghost use Rattle.settled.specs.Settled.{points};
-ghost use Rattle.joined.specs.Joined.{isApplication, Joined, JoinedAt};
+ghost use Rattle.joined.specs.Joined.{Joined, JoinedAt};
 use sheet::Biased;
 use sheet::Fields;
 use sheet::TermNumber;
-
-// Whether term i is of kind 3 or 4: no other has an input.
-pub fn is_application(sheet: &[u8], i: TermNumber) -> bool
-    requires { ⌜ Sized (now sheet) × (i .0 < countTerms (sheetOf (now sheet))) ⌝ }
-    ensures { λ r. ⌜ r ≡ isApplication (termAt (sheetOf (now (sheet .entry))) (i .0)) ⌝ }
-{
-    let kind = record_of(sheet, i).kind;
-    (3 <= kind) & (kind <= 4)
-}
 
 // Whether terms i and j of a sheet have the same input.
 pub fn same_at(sheet: &[u8], d: &[u32], i: TermNumber, j: TermNumber) -> bool

@@ -1,7 +1,7 @@
 -- One pair of terms: the three answers of a pass over it, and that a table in which no pair is left to tie is saturated.
 -- Assumes nothing.
 use Prim.Native.Nat.{ℕ, _+_, _<_}
-use mathlib.Core.Path.{_≡_, refl, sym, _∙_, ap}
+use mathlib.Core.Path.{_≡_, refl, sym, _∙_}
 use mathlib.Core.Bool.{Bool, true, false}
 use mathlib.Core.Logic.{⊎-elim}
 use mathlib.Core.List.{List}
@@ -21,11 +21,11 @@ use Rattle.settled.specs.Settled.{points, Saturated}
 use Rattle.settled.proofs.Held.{tied-met}
 use Rattle.steps.specs.Step.{Met, Stepped}
 use Rattle.steps.specs.True.{TieTrue}
-use Rattle.joined.specs.Joined.{isApplication, Joined, JoinedAt}
-use Rattle.joined.proofs.Inputs.{no-input}
+use Rattle.ties.proofs.Zero.{tied-back, tied-self}
+use Rattle.joined.specs.Joined.{Joined, JoinedAt}
 use Rattle.pairs.specs.declared.Passed.{Passed}
 use Rattle.pairs.specs.declared.Passed.the-variants.{Still}
-use Rattle.pairs.specs.Passing.{FunctionsTrue, PairTied, RowTied, AllTied, Passing, clash, tied, still, Tying, refused, fresh, already, putOf}
+use Rattle.pairs.specs.Passing.{FunctionsTrue, PairTied, AllTied, Passing, clash, tied, still, Tying, refused, fresh, already, putOf}
 use Rattle.pairs.proofs.Total.{falls}
 
 -- two points that weren't tied, and a step that ties them
@@ -67,28 +67,15 @@ module _ (s : Sheet) (W : WellFormed s) (i j : ℕ) (i< : i < countTerms s) (j< 
     pub joined : {m : ℕ} {new : List ℕ} {r : Passed} → m ≡ countTerms s → Tying (m + 1) i j old new r → Passing s (PairTied s i j) old new r
     joined m-is T = pass-on (rw m-is at T)
 
--- a term that is no application has nothing to be tied by
-pub no-application : {s : Sheet} {i : ℕ} {old : List ℕ} {t : Term} {r : Bool} → t ≡ termAt s i → r ≡ isApplication t → r ≡ false
-    → Passing s (RowTied s i) old old Still
-no-application e f g = still (record { each = λ j l. record { tied = λ J. absurd (no-input (ap isApplication (sym e) ∙ sym f ∙ g) J) } })
-
--- tied at 0 is tied at 0 from either side
-back : {d : ℕ → ℕ → ℕ} {a b : ℕ} → TiedAt d a b (pos 0) → TiedAt d b a (pos 0)
-back t = record { to = t .back; back = t .to }
-
+-- tied at 0 is tied at 0 from either side, and so are inputs
 joined-back : {d : ℕ → ℕ → ℕ} {t u : Term} → Joined d t u → Joined d u t
-joined-back (one p) = one (back p)
-joined-back (two p q) = two (back p) (back q)
+joined-back (one p) = one (tied-back p)
+joined-back (two p q) = two (tied-back p) (tied-back q)
 
 pub saturated : (s : Sheet) (d : ℕ → ℕ → ℕ) → Closed (points s) (reach (points s)) d
     → AllTied s d → Saturated s d
 saturated s d C E i j i< j< J =
     ⊎-elim
-    (λ p. ⊎-elim (λ e. own e) (λ l. back (E .each j j< .each i l .tied (joined-back J))) (eq-or-lt-of-le {n = i} {m = j} p))
+    (λ p. ⊎-elim (λ e. rw e (tied-self C (omega arith))) (λ l. tied-back (E .each j j< .each i l .tied (joined-back J))) (eq-or-lt-of-le {n = i} {m = j} p))
     (λ l. E .each i i< .each j l .tied J)
     (order i j)
-  where
-    own : i ≡ j → TiedAt d i j (pos 0)
-    own e =
-        let f : d j j ≡ 1073741824 = C .same j (omega arith) in
-        rw e (record { to = record { there = omega arith; bound = omega arith }; back = record { there = omega arith; bound = omega arith } })

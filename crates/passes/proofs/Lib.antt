@@ -1,2 +1,3 @@
 pub mod Passes
+pub mod Groups
 pub mod Settles

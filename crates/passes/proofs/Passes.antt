@@ -1,11 +1,10 @@
--- Passes one after the other: what a loop over pairs keeps, and what it answers.
+-- Passes one after the other: what a loop over them keeps, and what it answers.
 -- Assumes nothing.
-use Prim.Native.Nat.{ℕ, _+_, _<_}
+use Prim.Native.Nat.{ℕ, _<_}
 use mathlib.Core.Path.{refl}
 use mathlib.Core.Bool.{Bool, true, false}
 use mathlib.Core.List.{List}
 use native.Mathlib.Omega.{arith}
-use borrow.Author.Count.{below-more}
 use Rattle.closure.specs.Table.{Table}
 use Rattle.cells.specs.Cells.{cell}
 use Rattle.cells.proofs.Keeps.{kept-on}
@@ -14,7 +13,7 @@ use Rattle.settled.specs.Settled.{points}
 use Rattle.steps.specs.Step.{Stepped}
 use Rattle.steps.proofs.Steps.{Leaves, arrived, followed}
 use Rattle.pairs.specs.declared.Passed.the-variants.{Clash, New, Still}
-use Rattle.pairs.specs.Passing.{FunctionsTrue, EachTied, total, Passing, clash, tied, still, passedOf}
+use Rattle.pairs.specs.Passing.{FunctionsTrue, total, Passing, clash, tied, still, passedOf}
 
 module _ (s : Sheet) where
   -- a step that passes equalities on
@@ -24,36 +23,31 @@ module _ (s : Sheet) where
   pub on : {old mid new : List ℕ} → Passes old mid → Passes mid new → Passes old new
   on A B = followed (λ D v q. q) (λ D v q. q) (λ d e t p q. tt) (A .kept) (A .went refl) B
 
-  -- after the first m passes: one of them tied something, or none did
-  pub data Sofar (P : ℕ → Leaves) (old : List ℕ) : List ℕ → Bool → ℕ → Type 0 where
-    fresh : {d : List ℕ} {m : ℕ} → Passes old d → total (points s) (cell d) < total (points s) (cell old) → Sofar P old d true m
-    same : {m : ℕ} → Table (points s) (cell old) → ((k : ℕ) → k < m → P k (cell old)) → Sofar P old old false m
+  -- what some passes came to: one of them tied something, or none did, and Q is true of the table
+  pub data Sofar (Q : Leaves) (old : List ℕ) : List ℕ → Bool → Type 0 where
+    fresh : {d : List ℕ} → Passes old d → total (points s) (cell d) < total (points s) (cell old) → Sofar Q old d true
+    same : Table (points s) (cell old) → Q (cell old) → Sofar Q old old false
 
-  pub none-yet : {P : ℕ → Leaves} {old : List ℕ} → Table (points s) (cell old) → Sofar P old old false 0
-  none-yet T = same {m = 0} T (λ k l. absurd (omega arith))
-
-  pub sofar-table : {P : ℕ → Leaves} {old d : List ℕ} {b : Bool} {m : ℕ} → Sofar P old d b m → Table (points s) (cell d)
+  pub sofar-table : {Q : Leaves} {old d : List ℕ} {b : Bool} → Sofar Q old d b → Table (points s) (cell d)
   sofar-table (fresh p l) = p .went refl .table
-  sofar-table (same T e) = T
+  sofar-table (same T q) = T
 
   -- one more pass, that tied something or found nothing to do
-  pub more-new : {P : ℕ → Leaves} {old d new : List ℕ} {b : Bool} {m : ℕ} → Sofar P old d b m → Passing s (P m) d new New
-      → Sofar P old new true (m + 1)
+  pub more-new : {Q Q' P : Leaves} {old d new : List ℕ} {b : Bool} → Sofar Q old d b → Passing s P d new New → Sofar Q' old new true
   more-new (fresh p l) (tied w k f) = fresh (on p (arrived k w)) (omega arith)
-  more-new (same T h) (tied w k f) = fresh (arrived k w) f
+  more-new (same T q) (tied w k f) = fresh (arrived k w) f
 
-  pub more-still : {P : ℕ → Leaves} {old d new : List ℕ} {b : Bool} {m : ℕ} → Sofar P old d b m → Passing s (P m) d new Still
-      → Sofar P old new b (m + 1)
-  more-still (fresh p l) (still q) = fresh p l
-  more-still {P} {old} {m = m} (same T h) (still q) = same T (below-more (λ k. P k (cell old)) m h q)
+  pub more-still : {Q Q' P : Leaves} {old d new : List ℕ} {b : Bool} → (Q (cell d) → P (cell d) → Q' (cell d))
+      → Sofar Q old d b → Passing s P d new Still → Sofar Q' old new b
+  more-still f (fresh p l) (still q) = fresh p l
+  more-still f (same T h) (still q) = same T (f h q)
 
   -- what the loop answers
-  pub ended : {P : ℕ → Leaves} {old d : List ℕ} {b : Bool} {m : ℕ} → Sofar P old d b m → Passing s (EachTied P m) old d (passedOf b)
-  ended (fresh p l) = tied (p .went refl) (p .kept) l
-  ended (same T h) = still (record { each = h })
+  pub ended : {Q P : Leaves} {old d : List ℕ} {b : Bool} → ((e : ℕ → ℕ → ℕ) → Q e → P e) → Sofar Q old d b → Passing s P old d (passedOf b)
+  ended f (fresh p l) = tied (p .went refl) (p .kept) l
+  ended f (same T h) = still (f _ h)
 
   -- a clash after some passes is one from the start
-  pub clash-after : {P : ℕ → Leaves} {Q P' : Leaves} {old d new : List ℕ} {b : Bool} {m : ℕ}
-      → Sofar P old d b m → Passing s Q d new Clash → Passing s P' old new Clash
+  pub clash-after : {Q P P' : Leaves} {old d new : List ℕ} {b : Bool} → Sofar Q old d b → Passing s P d new Clash → Passing s P' old new Clash
   clash-after (fresh p l) (clash R K) = clash (λ D v D> M q. R D v D> (p .went refl .met D v D> M q) q) (kept-on (p .kept) K)
   clash-after (same T h) (clash R K) = clash R K

@@ -19,6 +19,10 @@ order g h = go (ltb h g) refl
     go true e = inr (ltb-true h g e)
     go false e = inl (ltb-false h g e)
 
+-- two of which neither is below the other are one
+pub neither-below : {g h : ℕ} → (g < h → ⊥) → (h < g → ⊥) → g ≡ h
+neither-below {g} {h} p q = ⊎-elim (λ k. ⊎-elim (λ l. omega arith) (λ l. absurd (p l)) (order h g)) (λ l. absurd (q l)) (order g h)
+
 pub ≤ℤ-refl : (x : ℤ) → x ≤ℤ x
 ≤ℤ-refl x = omega arith
 
