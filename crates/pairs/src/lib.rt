@@ -8,7 +8,7 @@ ghost use Rattle.cells.specs.Cells.{stride, cells, cell};
 ghost use Rattle.sheet.specs.Decode.{Sized, sheetOf};
 ghost use Rattle.sheet.specs.Sheet.{WellFormed, countTerms};
 ghost use Rattle.settled.specs.Settled.{points};
-ghost use Rattle.pairs.specs.Passing.{PairTied, Passing, Tying, putOf};
+ghost use Rattle.pairs.specs.Passing.{PairTied, Passing, Tying, passedOf, putOf};
 use sheet::Biased;
 use sheet::TermNumber;
 
@@ -48,4 +48,11 @@ fn put(tied: bool) -> Passed
     ensures { λ r. ⌜ r ≡ putOf tied ⌝ }
 {
     if tied { Passed::New } else { Passed::Clash }
+}
+
+// What a loop over passes came to.
+pub fn answered(fresh: bool) -> Passed
+    ensures { λ r. ⌜ r ≡ passedOf fresh ⌝ }
+{
+    if fresh { Passed::New } else { Passed::Still }
 }

@@ -1,3 +1,1 @@
-pub mod Passes
-pub mod Groups
 pub mod Settles

@@ -13,7 +13,7 @@ use Rattle.steps.proofs.Steps.{arrived}
 use Rattle.pairs.specs.declared.Passed.{Passed}
 use Rattle.pairs.specs.declared.Passed.the-variants.{Clash, New, Still}
 use Rattle.pairs.specs.Passing.{FunctionsTrue, AllTied, total, Passing, clash, tied, still}
-use Rattle.passes.proofs.Passes.{Passes, on}
+use Rattle.pairs.proofs.Passes.{Passes, on}
 use Rattle.pairs.proofs.Pairs.{saturated}
 
 module _ (s : Sheet) where

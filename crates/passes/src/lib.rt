@@ -1,18 +1,14 @@
-// Equalities passed on: pairs of applications of one input are tied, until a pass over all pairs finds nothing new.
-// It rests on the pairs, and promises a saturated table that whatever met the old one and gives equal inputs equal answers meets too, or
+// Equalities passed on: terms of one input are tied, until a pass over all terms finds nothing new.
+// It rests on the groups, and promises a saturated table that whatever met the old one and gives equal inputs equal answers meets too, or
 // that nothing does.
 ghost use mathlib.Core.Path.{_≡_};
-ghost use Prim.Native.Nat.{ℕ, _+_, _<_};
-ghost use lib.ListN.{length, getD};
+ghost use lib.ListN.{length};
 ghost use Rattle.closure.specs.Table.{Table};
 ghost use Rattle.cells.specs.Cells.{cells, cell};
 ghost use Rattle.sheet.specs.Decode.{Sized, sheetOf};
-ghost use Rattle.sheet.specs.Limits.{maxTerms};
-ghost use Rattle.sheet.specs.Sheet.{WellFormed, countTerms};
+ghost use Rattle.sheet.specs.Sheet.{WellFormed};
 ghost use Rattle.settled.specs.Settled.{points};
-ghost use Rattle.sorted.specs.Inserted.{Ascending};
-ghost use Rattle.pairs.specs.Passing.{FunctionsPut, AllTied, Passing, passedOf};
-ghost use Rattle.passes.specs.Listed.{GroupTied, TermPassed, KeyPut};
+ghost use Rattle.pairs.specs.Passing.{FunctionsPut, AllTied, Passing};
 use pairs::Passed;
 use sheet::TermNumber;
 
@@ -42,61 +38,12 @@ fn pass(sheet: &[u8], d: &mut [u32]) -> Passed
     let mut fresh = false;
     let mut i = 0;
     while i < t {
-        match pass_term(sheet, &mut keys, d, TermNumber(i as u8)) {
+        match groups::pass_term(sheet, &mut keys, d, TermNumber(i as u8)) {
             Passed::Clash => return Passed::Clash,
             Passed::New => fresh = true,
             Passed::Still => {}
         }
         i += 1;
     }
-    answered(fresh)
-}
-
-// Puts term i's key in among those of the terms before it, where those that have its input stand right below it.
-fn pass_term(sheet: &[u8], keys: &mut [u64], d: &mut [u32], i: TermNumber) -> Passed
-    requires { ⌜ Sized (now sheet) × WellFormed (sheetOf (now sheet)) × (i .0 < countTerms (sheetOf (now sheet))) ⌝ }
-    requires { ⌜ (length (now keys) ≡ maxTerms) × Ascending (i .0) (now keys) ⌝ }
-    requires { ⌜ (length (now d) ≡ cells) × Table (points (sheetOf (now sheet))) (cell (now d)) ⌝ }
-    ensures passing { λ r. ⌜ Passing (sheetOf (now (sheet .entry))) (TermPassed (sheetOf (now (sheet .entry))) (i .0) (now (keys .entry))) (now (d .entry)) (now (d .exit)) r ⌝ }
-    ensures put { λ _. ⌜ KeyPut (sheetOf (now (sheet .entry))) (i .0) (now (keys .entry)) (now (keys .exit)) (cell (now (d .entry))) ⌝ }
-{
-    let key = roots::key_at(sheet, d, i);
-    let place = sorted::insert(keys, i.0 as usize, 256 * key + i.0 as u64);
-    if key == 0 {
-        return Passed::Still;
-    }
-    pass_group(sheet, keys, d, i, place, 256 * key)
-}
-
-// Term i with those below its place whose keys aren't below the least that its input has.
-fn pass_group(
-    sheet: &[u8],
-    keys: &[u64],
-    d: &mut [u32],
-    i: TermNumber,
-    place: usize,
-    least: u64,
-) -> Passed
-    requires { ⌜ Sized (now sheet) × WellFormed (sheetOf (now sheet)) × (i .0 < countTerms (sheetOf (now sheet))) ⌝ }
-    requires { ⌜ (place < length (now keys)) × Ascending place (now keys) × ((q : ℕ) → q < place → getD (now keys) q 0 < least + i .0) ⌝ }
-    requires { ⌜ (length (now d) ≡ cells) × Table (points (sheetOf (now sheet))) (cell (now d)) ⌝ }
-    ensures { λ r. ⌜ Passing (sheetOf (now (sheet .entry))) (GroupTied (sheetOf (now (sheet .entry))) (i .0) (now (keys .entry)) least place) (now (d .entry)) (now (d .exit)) r ⌝ }
-{
-    let mut fresh = false;
-    let mut q = sorted::first_from(keys, place, least);
-    while q < place {
-        match pairs::pass_pair(sheet, d, i, TermNumber((keys[q] - least) as u8)) {
-            Passed::Clash => return Passed::Clash,
-            Passed::New => fresh = true,
-            Passed::Still => {}
-        }
-        q += 1;
-    }
-    answered(fresh)
-}
-
-fn answered(fresh: bool) -> Passed
-    ensures { λ r. ⌜ r ≡ passedOf fresh ⌝ }
-{
-    if fresh { Passed::New } else { Passed::Still }
+    pairs::answered(fresh)
 }

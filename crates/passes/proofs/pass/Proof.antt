@@ -11,8 +11,8 @@ use Rattle.sheet.specs.Limits.{maxTerms}
 use Rattle.sheet.specs.Sheet.{countTerms}
 use Rattle.sorted.specs.Inserted.{Ascending}
 use Rattle.sorted.proofs.Inserted.{ascending-none, ascending-more}
-use Rattle.passes.proofs.Passes.{Sofar, same, sofar-table, more-new, more-still, ended, clash-after}
-use Rattle.passes.proofs.Groups.{TermsPassed, no-terms, one-term}
+use Rattle.pairs.proofs.Passes.{Sofar, same, sofar-table, more-new, more-still, ended, clash-after}
+use Rattle.groups.proofs.Groups.{TermsPassed, no-terms, one-term}
 use Rattle.passes.proofs.pass.Statement.{statement}
 use Rattle.passes.proofs.pass.Tie as tie
 

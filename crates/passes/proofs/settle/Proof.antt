@@ -9,7 +9,7 @@ use Rattle.sheet.specs.Decode.{sheetOf}
 use Rattle.settled.specs.Settled.{points}
 use Rattle.steps.proofs.Steps.{stayed}
 use Rattle.pairs.specs.Passing.{total}
-use Rattle.passes.proofs.Passes.{Passes}
+use Rattle.pairs.proofs.Passes.{Passes}
 use Rattle.passes.proofs.Settles.{goes-on, lower, clashes, ended}
 use Rattle.passes.proofs.settle.Statement.{statement}
 use Rattle.passes.proofs.settle.Tie as tie

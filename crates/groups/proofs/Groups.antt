@@ -9,7 +9,6 @@ use native.Mathlib.Omega.{arith}
 use borrow.Author.Count.{below-more}
 use Rattle.whole.proofs.Order.{order}
 use Rattle.closure.specs.Closed.{Closed}
-use Rattle.cells.specs.Cells.{cell}
 use Rattle.sheet.specs.Sheet.{Sheet, WellFormed, countTerms, termAt}
 use Rattle.sheet.proofs.Below.{arguments-wider}
 use Rattle.settled.specs.Settled.{points}
@@ -17,9 +16,8 @@ use Rattle.sorted.specs.Inserted.{Inserted, FirstFrom}
 use Rattle.roots.specs.Keyed.{Keyed}
 use Rattle.roots.proofs.Roots.{keyless, one-key}
 use Rattle.joined.specs.Joined.{Joined}
-use Rattle.pairs.specs.declared.Passed.{Passed}
-use Rattle.pairs.specs.Passing.{PairTied, RowTied, EachTied, Passing, clash, tied, still}
-use Rattle.passes.specs.Listed.{ListedAt, Listed, GroupTied, TermPassed, KeyPut}
+use Rattle.pairs.specs.Passing.{PairTied, RowTied, EachTied}
+use Rattle.groups.specs.Listed.{ListedAt, Listed, GroupTied, TermPassed, KeyPut}
 
 -- the pairs of a group, from the first place on whose key isn't below the least
 module _ {s : Sheet} {i : ℕ} {keys : List ℕ} {least : ℕ} where
@@ -97,10 +95,3 @@ one-term {s} {i} {d = d} K A P =
       rows = record { each = below-more (λ k. RowTied s k d) i (A .rows .each) (P .row (A .listed)) };
       listed = one-listed (K .keyed) (K .put) (A .listed);
     }
-
--- what is true of the table where nothing was to be done follows from what the pass says of it
-pub passing-map : {s : Sheet} {P Q : (ℕ → ℕ → ℕ) → Type 0} {old new : List ℕ} {r : Passed} → (P (cell old) → Q (cell old)) → Passing s P old new r
-    → Passing s Q old new r
-passing-map f (clash R K) = clash R K
-passing-map f (tied w k l) = tied w k l
-passing-map f (still p) = still (f p)

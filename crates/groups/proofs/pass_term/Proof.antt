@@ -1,12 +1,13 @@
--- `passes::pass_term` meets its contract: those that have the term's input stand right below its place (proofs/Groups.antt).
+-- `groups::pass_term` meets its contract: those that have the term's input stand right below its place (proofs/Groups.antt).
 -- Assumes nothing.
 use native.Mathlib.Omega.{arith}
 use borrow.Author.Needs.{needs}
 use Rattle.sorted.proofs.Inserted.{ascending-fewer, ascending-more}
 use Rattle.pairs.specs.Passing.{still}
-use Rattle.passes.proofs.Groups.{group-passed, none-passed, passing-map}
-use Rattle.passes.proofs.pass_term.Statement.{statement}
-use Rattle.passes.proofs.pass_term.Tie as tie
+use Rattle.pairs.proofs.Passes.{passing-map}
+use Rattle.groups.proofs.Groups.{group-passed, none-passed}
+use Rattle.groups.proofs.pass_term.Statement.{statement}
+use Rattle.groups.proofs.pass_term.Tie as tie
 
 insert-requires : tie.Need-insert-requires
 insert-requires c κs =
@@ -39,7 +40,7 @@ returns-2 c =
     let start = keyed .before .before .before .before .before in
     let K = keyed .key-at .ensures .0 in
     let I = inserted .insert .ensures in (
-      passing-map (group-passed K I (start .pre .0 .1) (start .pre .1 .1 .1 .closed) (start .pre .0 .2)) (grouped .pass-group .ensures),
+      passing-map _ (group-passed K I (start .pre .0 .1) (start .pre .1 .1 .1 .closed) (start .pre .0 .2)) (grouped .pass-group .ensures),
       record { key = _; place = _; keyed = K; put = I },
     )
 

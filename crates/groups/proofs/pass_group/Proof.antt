@@ -1,4 +1,4 @@
--- `passes::pass_group` meets its contract: the pairs before the counter's place are passed (proofs/Groups.antt).
+-- `groups::pass_group` meets its contract: the pairs before the counter's place are passed (proofs/Groups.antt).
 -- Assumes nothing.
 use Prim.Native.Nat.{_-_, _≤_}
 use mathlib.Core.Path.{_≡_, refl}
@@ -7,11 +7,11 @@ use lib.ListN.{length}
 use native.Mathlib.Omega.{arith}
 use borrow.Author.Needs.{needs}
 use Rattle.sheet.specs.Decode.{sheetOf}
-use Rattle.passes.specs.Listed.{GroupTied}
-use Rattle.passes.proofs.Passes.{Sofar, same, sofar-table, more-new, more-still, ended, clash-after}
-use Rattle.passes.proofs.Groups.{none-paired, one-paired}
-use Rattle.passes.proofs.pass_group.Statement.{statement}
-use Rattle.passes.proofs.pass_group.Tie as tie
+use Rattle.groups.specs.Listed.{GroupTied}
+use Rattle.pairs.proofs.Passes.{Sofar, same, sofar-table, more-new, more-still, ended, clash-after}
+use Rattle.groups.proofs.Groups.{none-paired, one-paired}
+use Rattle.groups.proofs.pass_group.Statement.{statement}
+use Rattle.groups.proofs.pass_group.Tie as tie
 
 abbrev Inv-loop : tie.InvT-loop
 Inv-loop sheet keys d₀ i place least fresh₀ q₀ d fresh q =

@@ -12,8 +12,9 @@ use Rattle.sheet.specs.Sheet.{Sheet}
 use Rattle.settled.specs.Settled.{points}
 use Rattle.steps.specs.Step.{Stepped}
 use Rattle.steps.proofs.Steps.{Leaves, arrived, followed}
+use Rattle.pairs.specs.declared.Passed.{Passed}
 use Rattle.pairs.specs.declared.Passed.the-variants.{Clash, New, Still}
 use Rattle.pairs.specs.Passing.{FunctionsTrue, total, Passing, clash, tied, still, passedOf}
 
 module _ (s : Sheet) where
   -- a step that passes equalities on
@@ -51,3 +52,9 @@ module _ (s : Sheet) where
   pub clash-after : {Q P P' : Leaves} {old d new : List ℕ} {b : Bool} → Sofar Q old d b → Passing s P d new Clash → Passing s P' old new Clash
   clash-after (fresh p l) (clash R K) = clash (λ D v D> M q. R D v D> (p .went refl .met D v D> M q) q) (kept-on (p .kept) K)
   clash-after (same T h) (clash R K) = clash R K
+
+  -- what is true of the table where nothing was to be done follows from what a pass says of it
+  pub passing-map : {P Q : Leaves} {old new : List ℕ} {r : Passed} → (P (cell old) → Q (cell old)) → Passing s P old new r → Passing s Q old new r
+  passing-map f (clash R K) = clash R K
+  passing-map f (tied w k l) = tied w k l
+  passing-map f (still p) = still (f p)
