@@ -21,7 +21,7 @@ pub record ListedAt (s : Sheet) (m : ℕ) (keys : List ℕ) (j : ℕ) (d : ℕ �
 pub record Listed (s : Sheet) (m : ℕ) (keys : List ℕ) (d : ℕ → ℕ → ℕ) : Type 0 where
   pub listed : (j : ℕ) → j < m → ListedAt s m keys j d
 
--- term i and each whose key is among the first m and isn't below least, which is the lowest key that i's input may have
+-- term i is tied to those of its input among the terms whose keys are of the first m and not below least, the lowest that its input has
 pub record GroupTied (s : Sheet) (i : ℕ) (keys : List ℕ) (least m : ℕ) (d : ℕ → ℕ → ℕ) : Type 0 where
   pub each : (q : ℕ) → q < m → least ≤ getD keys q 0 → PairTied s i (getD keys q 0 - least) d
 
