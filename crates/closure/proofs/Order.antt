@@ -54,7 +54,7 @@ same plain under e f = absurd (omega arith)
 same under plain e f = absurd (omega arith)
 same under under e f = ap strict (parts-inj _ _ f)
 
-none-tight : {k : Kind} {m : ℕ} {c : ℤ} → Is k m c → Tight noGap k → ⊥
+pub none-tight : {k : Kind} {m : ℕ} {c : ℤ} → Is k m c → Tight noGap k → ⊥
 unfolding Tight
 none-tight plain h = h
 none-tight under h = h
@@ -90,6 +90,18 @@ tight-trans x y z = go (seen x) (seen y) (seen z)
     go u missing (present k) p q = absurd (none-tight k q)
     go missing (present j) (present k) p q = absurd (none-tight j p)
     go (present i) (present j) (present k) p q = line i k .1 (omega (arith, line i j .0 p, line j k .0 q))
+
+pub tight-antisym : (x y : Kind) → Tight x y → Tight y x → x ≡ y
+tight-antisym x y = go (seen x) (seen y)
+  where
+    go : {x y : Kind} → Seen x → Seen y → Tight x y → Tight y x → x ≡ y
+    go missing missing p q = refl
+    go missing (present j) p q = absurd (none-tight j p)
+    go (present i) missing p q = absurd (none-tight i q)
+    go (present i) (present j) p q =
+        let u = line i j .0 p in
+        let v = line j i .0 q in
+        same i j (omega (arith, mark i, mark j)) (omega (arith, mark i, mark j))
 
 pub tight-same : (x : Kind) {y z : Kind} → Tight x y → y ≡ z → Tight x z
 tight-same x h e = subst (Tight x) e h

@@ -34,3 +34,7 @@ pub record Reached (E : ℕ → ℕ → Kind → Type 0) (i k : ℕ) (t : Kind) 
   pub points : List ℕ
   pub walk : Walk E i k total points
   pub tight : Tight total t
+
+-- each bound of E is one of F
+pub record Among (E F : ℕ → ℕ → Kind → Type 0) : Type 0 where
+  pub more : {i j : ℕ} {g : Kind} → E i j g → F i j g

@@ -1,57 +1,24 @@
 -- When two terms have the same input, as their records say it.
 -- Assumes nothing.
-use Prim.Native.Nat.{ℕ, zero, suc, _≤_, _<_}
+use Prim.Native.Nat.{ℕ, _≤_, _<_}
 use mathlib.Core.Path.{_≡_, refl, sym, _∙_}
 use mathlib.Core.Bool.{Bool, true, false, not, _||_, true≢false}
 use mathlib.Core.Logic.{⊎-elim}
 use lib.Dec.{ltb, eqb}
 use lib.IntN.{pos}
-use lib.ListN.{getD}
 use native.Mathlib.Nat.{eq-or-lt-of-le}
 use native.Mathlib.Omega.{arith}
 use borrow.Author.Tests.{ltb-false, eqb-true, eqb-false, le-ltb, eq-eqb, not-false}
 use Rattle.closure.specs.Closed.{TiedAt}
 use Rattle.sheet.specs.declared.Fields.{Fields}
-use Rattle.sheet.specs.Decode.{termKinds, decodeTerm}
-use Rattle.sheet.specs.Sheet.{Term, unknown, apply, apply2, ArgumentsBelow}
+use Rattle.sheet.specs.Decode.{decodeTerm}
+use Rattle.sheet.specs.Sheet.{Term, ArgumentsBelow}
 use Rattle.sheet.proofs.Below.{argument, arguments}
+use Rattle.sheet.proofs.Made.{is-one, is-two, of-one, of-two}
 use Rattle.meaning.specs.Meaning.{one, two}
 use Rattle.meaning.specs.Decides.{Decides}
 use Rattle.meaning.proofs.Decides.{told}
 use Rattle.joined.specs.Joined.{Joined}
-
--- the terms that a record of kind 3 or 4 makes, and no other does
-is-one : (f : Fields) → f .kind ≡ 3 → decodeTerm f ≡ apply (f .symbol) (f .a)
-unfolding decodeTerm
-is-one f e = rw e
-
-is-two : (f : Fields) → f .kind ≡ 4 → decodeTerm f ≡ apply2 (f .symbol) (f .a) (f .b)
-unfolding decodeTerm
-is-two f e = rw e
-
-of-one : (f : Fields) {g a : ℕ} → decodeTerm f ≡ apply g a → (f .kind ≡ 3) × (f .symbol ≡ g) × (f .a ≡ a)
-unfolding decodeTerm
-of-one f {g} {a} = go (f .kind) refl
-  where
-    go : (k : ℕ) → f .kind ≡ k → getD (termKinds f) k unknown ≡ apply g a → (f .kind ≡ 3) × (f .symbol ≡ g) × (f .a ≡ a)
-    go zero e h = let z : _≡_ {A = ℕ} 0 1 = cc in absurd (omega arith)
-    go (suc zero) e h = let z : _≡_ {A = ℕ} 0 1 = cc in absurd (omega arith)
-    go (suc (suc zero)) e h = let z : _≡_ {A = ℕ} 0 1 = cc in absurd (omega arith)
-    go (suc (suc (suc zero))) e h = (e, cc, cc)
-    go (suc (suc (suc (suc zero)))) e h = let z : _≡_ {A = ℕ} 0 1 = cc in absurd (omega arith)
-    go (suc (suc (suc (suc (suc k))))) e h = let z : _≡_ {A = ℕ} 0 1 = cc in absurd (omega arith)
-
-of-two : (f : Fields) {g a b : ℕ} → decodeTerm f ≡ apply2 g a b → (f .kind ≡ 4) × (f .symbol ≡ g) × (f .a ≡ a) × (f .b ≡ b)
-unfolding decodeTerm
-of-two f {g} {a} {b} = go (f .kind) refl
-  where
-    go : (k : ℕ) → f .kind ≡ k → getD (termKinds f) k unknown ≡ apply2 g a b → (f .kind ≡ 4) × (f .symbol ≡ g) × (f .a ≡ a) × (f .b ≡ b)
-    go zero e h = let z : _≡_ {A = ℕ} 0 1 = cc in absurd (omega arith)
-    go (suc zero) e h = let z : _≡_ {A = ℕ} 0 1 = cc in absurd (omega arith)
-    go (suc (suc zero)) e h = let z : _≡_ {A = ℕ} 0 1 = cc in absurd (omega arith)
-    go (suc (suc (suc zero))) e h = let z : _≡_ {A = ℕ} 0 1 = cc in absurd (omega arith)
-    go (suc (suc (suc (suc zero)))) e h = (e, cc, cc, cc)
-    go (suc (suc (suc (suc (suc k))))) e h = let z : _≡_ {A = ℕ} 0 1 = cc in absurd (omega arith)
 
 -- two records of one kind and symbol, the kind 3 or 4
 pub record OneSymbol (t u : Fields) : Type 0 where

@@ -29,7 +29,7 @@ pub fn to(c: Biased) -> Gap
     Gap::whole(c.0 as u32, 32768)
 }
 
-fn back(c: Biased) -> Gap
+pub fn back(c: Biased) -> Gap
     ensures { λ r. ⌜ Weak (r .0) 32768 (c .0) ⌝ }
 {
     Gap::whole(32768, c.0 as u32)

@@ -46,7 +46,7 @@ pub fn apart(sheet: &[u8], set: &[bool], d: &[u32]) -> bool
 }
 
 // Whether entry e is in the set, and a ≠ entry on terms tied at exactly its c.
-fn broken_at(sheet: &[u8], set: &[bool], d: &[u32], e: EntryNumber) -> bool
+pub fn broken_at(sheet: &[u8], set: &[bool], d: &[u32], e: EntryNumber) -> bool
     requires { ⌜ Sized (now sheet) × WellFormed (sheetOf (now sheet)) ⌝ }
     requires { ⌜ (e .0 < countEntries (sheetOf (now sheet))) × (e .0 < length (now set)) × (length (now d) ≡ cells) ⌝ }
     requires { ⌜ Closed (points (sheetOf (now sheet))) (reach (points (sheetOf (now sheet)))) (cell (now d)) ⌝ }

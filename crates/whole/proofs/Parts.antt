@@ -22,12 +22,12 @@ add-parts (pos a) (negsuc b) = omega (arith, sub-parts a (suc b))
 add-parts (negsuc a) (pos b) = omega (arith, sub-parts b (suc a))
 add-parts (negsuc a) (negsuc b) = omega arith
 
-neg-plus : (x : ℤ) → plus (negℤ x) ≡ minus x
+pub neg-plus : (x : ℤ) → plus (negℤ x) ≡ minus x
 neg-plus (pos zero) = refl
 neg-plus (pos (suc n)) = refl
 neg-plus (negsuc n) = refl
 
-neg-minus : (x : ℤ) → minus (negℤ x) ≡ plus x
+pub neg-minus : (x : ℤ) → minus (negℤ x) ≡ plus x
 neg-minus (pos zero) = refl
 neg-minus (pos (suc n)) = refl
 neg-minus (negsuc n) = refl
