@@ -1,0 +1,6 @@
+pub mod Sound
+pub mod Bounds
+pub mod Rank
+pub mod Pruned
+pub mod Exact
+pub mod Paths

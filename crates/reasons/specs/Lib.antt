@@ -1,0 +1,4 @@
+pub mod Step
+pub mod Rules
+pub mod Reason
+pub mod Pruned
