@@ -1,0 +1,4 @@
+pub mod Ends
+pub mod Asked
+pub mod Closing
+pub mod Record

@@ -1,0 +1,9 @@
+pub mod Named
+pub mod Walks
+pub mod Kept
+pub mod Levels
+pub mod Ends
+pub mod Endings
+pub mod Readings
+pub mod Ready
+pub mod Complete

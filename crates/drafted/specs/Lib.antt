@@ -1,0 +1,2 @@
+pub mod Drafted
+pub mod Ending

@@ -1,0 +1,4 @@
+pub mod Fronts
+pub mod Groups
+pub mod Back
+pub mod Growing

@@ -1,0 +1,5 @@
+pub mod Longer
+pub mod Inputs
+pub mod Tables
+pub mod Laying
+pub mod Turn
