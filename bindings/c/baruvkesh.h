@@ -89,6 +89,52 @@ uint64_t baruvkesh_transcribe(const uint8_t *text, size_t text_len, uint8_t *roo
 static inline unsigned baruvkesh_typed_number(uint64_t answer) { return (unsigned)(answer >> 32); }
 static inline size_t baruvkesh_typed_place(uint64_t answer) { return (size_t)(answer & 0xFFFFFFFF); }
 
+/* The length of a room that is enough for every reason, 68379. */
+#define BARUVKESH_REASON_ROOM \
+    (10 + BARUVKESH_MAX_ENTRIES + (BARUVKESH_MAX_TERMS + 1) * (13 + 4 * (BARUVKESH_MAX_TERMS + 1)))
+
+/* Writes a reason for a clash, and answers number * 2^32 + place:
+ *
+ *   number  given exactly when                                               place
+ *   1       the sheet clashes, and the room is long enough                   length of the reason record
+ *   10-14   as with baruvkesh_judge                                          as there
+ *   26      the sheet holds                                                  0
+ *   25      the sheet clashes, and room_len is under 68379                   0
+ *
+ * 10 to 14 are checked first, then 26, then 25. With them the whole room keeps what it held. With 1 the room starts with the reason
+ * record, and the bytes past its length keep what they held. The points are the terms by their numbers, and T for the zero level:
+ *
+ *   bytes   what
+ *   0-3     length of the whole record
+ *   4       1
+ *   5       number of groups lost to ties, which is the number of tie steps
+ *   6-7     k, the length of the clash list
+ *   8-9     number of steps
+ *   then k  the clash list, as in the answer record
+ *   then    the steps: kind, a, b (1 byte each), c (8 bytes, signed, two's complement), numbers of bounds of the first and of the second
+ *           walk (1 byte each), and the bounds of the first walk and then of the second: kind and number (1 byte each)
+ *
+ *   step kind
+ *   0       a tie, a = b + c: the first walk goes from a to b and comes to c, the second from b to a and comes to -c
+ *   1       a tie of two applications, a = b: their arguments are tied with gap 0; c is 0, no bounds
+ *   2       the walk from a back to a is below zero, or zero with a strict entry; b and c are 0, no second walk
+ *   3       a is a != entry on terms tied at exactly its c; b and c are 0, no bounds
+ *
+ *   bound kind
+ *   0, 1    the entry of that number, and the same backwards
+ *   2, 3    the number or shift term, and the same backwards
+ *   4, 5    the earlier tie, by its number among all steps, and the same backwards
+ *
+ * The steps obey document 01's rules for reasons, use entries of the list only, and the entries behind the last step, gathered through
+ * every earlier tie it rests on, are exactly the list; no step is there that the last one doesn't rest on.
+ *
+ * Lengths, pointers and threads are as with baruvkesh_judge; the call asks for no memory but the stack's, under 256 KB. */
+uint64_t baruvkesh_reason(const uint8_t *sheet, size_t sheet_len, uint8_t *room, size_t room_len);
+
+/* The two halves of what baruvkesh_reason answers. */
+static inline unsigned baruvkesh_reason_number(uint64_t answer) { return (unsigned)(answer >> 32); }
+static inline size_t baruvkesh_reason_place(uint64_t answer) { return (size_t)(answer & 0xFFFFFFFF); }
+
 #ifdef __cplusplus
 }
 #endif

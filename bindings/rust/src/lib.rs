@@ -14,6 +14,24 @@
 //! }
 //! ```
 //!
+//! [`reason`] writes a reason for a clash, which anybody can check step by step:
+//!
+//! ```
+//! use baruvkesh::{reason, Reasoned, Step, REASON_ROOM};
+//!
+//! // one unknown x, and the entry x < x
+//! let sheet = [0, 18, 1, 1, 1, 0, 0, 0, 0, 0, 0, 0, 3, 0, 0, 0, 0, 0];
+//! let mut room = vec![0; REASON_ROOM];
+//! match reason(&sheet, &mut room) {
+//!     Reasoned::Written(reason) => {
+//!         // a walk over entry 0 from x back to x
+//!         let steps: Vec<Step> = reason.steps().collect();
+//!         assert!(matches!(steps[..], [Step::ClosingWalk { a: 0, .. }]));
+//!     }
+//!     other => println!("{other:?}"),
+//! }
+//! ```
+//!
 //! A sheet may also be typed as text, one entry a line; [`transcribe`] writes its bytes:
 //!
 //! ```
@@ -45,6 +63,9 @@ pub const ROOM_NEEDED: usize = 8 + 8 * MAX_TERMS;
 
 /// Length of a room that is enough for the sheet of every text: 1,542.
 pub const SHEET_ROOM: usize = 6 + 6 * MAX_TERMS + 6 * MAX_ENTRIES;
+
+/// Length of a room that is enough for every reason: 68,379.
+pub const REASON_ROOM: usize = 10 + MAX_ENTRIES + (MAX_TERMS + 1) * (13 + 4 * (MAX_TERMS + 1));
 
 /// The number of a term. It is never taken for an entry's.
 #[derive(Clone, Copy, Debug, PartialEq, Eq, PartialOrd, Ord)]
@@ -117,6 +138,66 @@ pub enum Slip {
     Room,
 }
 
+/// What the call for reasons says of a sheet.
+#[derive(Clone, Copy, Debug, PartialEq, Eq)]
+pub enum Reasoned<'a> {
+    /// The sheet clashes: a reason for its first list, whose record stands in the first bytes of the room.
+    Written(Reason<'a>),
+    /// 25: the sheet clashes, and the room is under [`REASON_ROOM`] bytes; it keeps what it held.
+    Short,
+    /// 26: the sheet holds; the whole room keeps what it held.
+    Holds,
+    /// The sheet is sent back, never with [`Refusal::Room`], and the whole room keeps what it held.
+    Refused(Refusal),
+}
+
+/// The record of a reason: ties, and behind them one closing step.
+#[derive(Clone, Copy, Debug, PartialEq, Eq)]
+pub struct Reason<'a>(&'a [u8]);
+
+/// A step of a reason. Points are the terms by their numbers, and T for the zero level.
+#[derive(Clone, Copy, Debug, PartialEq, Eq)]
+pub enum Step<'a> {
+    /// a = b + c: one walk goes from a to b and comes to c, one from b to a and comes to -c.
+    TieByWalks {
+        a: u8,
+        b: u8,
+        c: i64,
+        there: Walk<'a>,
+        back: Walk<'a>,
+    },
+    /// a = b, of two applications whose arguments are tied with gap 0.
+    TieByFunctions { a: TermNumber, b: TermNumber },
+    /// A walk from a back to a, below zero, or zero with a strict entry.
+    ClosingWalk { a: u8, round: Walk<'a> },
+    /// A ≠ entry on terms tied at exactly its c.
+    ClosingEntry(EntryNumber),
+}
+
+/// Bounds that chain, each from where the last one went.
+#[derive(Clone, Copy, Debug, PartialEq, Eq)]
+pub struct Walk<'a>(&'a [u8]);
+
+/// What a walk goes over.
+#[derive(Clone, Copy, Debug, PartialEq, Eq)]
+pub struct Bound {
+    /// An entry, a term, or an earlier tie.
+    pub over: Over,
+    /// Whether it is walked backwards.
+    pub back: bool,
+}
+
+/// What a bound is of.
+#[derive(Clone, Copy, Debug, PartialEq, Eq)]
+pub enum Over {
+    /// A ≤, < or = entry.
+    Entry(EntryNumber),
+    /// A number or a shift.
+    Term(TermNumber),
+    /// The tie step of that number.
+    Tie(u8),
+}
+
 impl Answer<'_> {
     /// 0 for holds, 1 for clashes, and the refusal's number.
     pub fn number(&self) -> u8 {
@@ -165,6 +246,97 @@ impl<'a> List<'a> {
     /// The entries of the list, rising.
     pub fn entries(&self) -> impl Iterator<Item = EntryNumber> + 'a {
         self.0[8..].iter().map(|&entry| EntryNumber(entry))
+    }
+}
+
+impl Reasoned<'_> {
+    /// 1 where a reason is written, 25, 26, and the refusal's number.
+    pub fn number(&self) -> u8 {
+        match self {
+            Reasoned::Written(_) => 1,
+            Reasoned::Short => 25,
+            Reasoned::Holds => 26,
+            Reasoned::Refused(why) => why.number(),
+        }
+    }
+
+    /// The length of the reason record, or the refusal's place, or 0.
+    pub fn place(&self) -> usize {
+        match self {
+            Reasoned::Written(reason) => reason.record().len(),
+            Reasoned::Short | Reasoned::Holds => 0,
+            Reasoned::Refused(why) => why.place().into(),
+        }
+    }
+}
+
+impl<'a> Reason<'a> {
+    /// The reason record.
+    pub fn record(&self) -> &'a [u8] {
+        self.0
+    }
+
+    /// The number of groups lost to ties.
+    pub fn ties(&self) -> u8 {
+        self.0[5]
+    }
+
+    /// The clash list, rising: the entries behind the last step are exactly these.
+    pub fn entries(&self) -> impl Iterator<Item = EntryNumber> + 'a {
+        self.0[10..self.listed()]
+            .iter()
+            .map(|&entry| EntryNumber(entry))
+    }
+
+    /// The steps; the last one closes.
+    pub fn steps(&self) -> impl Iterator<Item = Step<'a>> + 'a {
+        let mut rest = &self.0[self.listed()..];
+        std::iter::from_fn(move || {
+            let (head, bounds) = (rest.get(..13)?, &rest[13..]);
+            let (there, bounds) = bounds.split_at(2 * usize::from(head[11]));
+            let (back, behind) = bounds.split_at(2 * usize::from(head[12]));
+            rest = behind;
+            let (a, b) = (head[1], head[2]);
+            Some(match head[0] {
+                0 => Step::TieByWalks {
+                    a,
+                    b,
+                    c: i64::from_be_bytes(head[3..11].try_into().unwrap()),
+                    there: Walk(there),
+                    back: Walk(back),
+                },
+                1 => Step::TieByFunctions {
+                    a: TermNumber(a),
+                    b: TermNumber(b),
+                },
+                2 => Step::ClosingWalk {
+                    a,
+                    round: Walk(there),
+                },
+                3 => Step::ClosingEntry(EntryNumber(a)),
+                kind => unreachable!("the contract has no step of kind {kind}"),
+            })
+        })
+    }
+
+    // where the clash list ends
+    fn listed(&self) -> usize {
+        10 + usize::from(u16::from_be_bytes([self.0[6], self.0[7]]))
+    }
+}
+
+impl<'a> Walk<'a> {
+    /// The bounds, from the walk's first point to its last.
+    pub fn bounds(&self) -> impl Iterator<Item = Bound> + 'a {
+        self.0.chunks_exact(2).map(|bytes| Bound {
+            over: match bytes[0] / 2 {
+                0 => Over::Entry(EntryNumber(bytes[1])),
+                1 => Over::Term(TermNumber(bytes[1])),
+                2 => Over::Tie(bytes[1]),
+                _ => unreachable!("the contract has no bound of kind {}", bytes[0]),
+            },
+            back: bytes[0] % 2 == 1,
+        })
     }
 }
 
@@ -220,6 +392,7 @@ extern "C" {
         room: *mut u8,
         room_len: usize,
     ) -> u64;
+    fn baruvkesh_reason(sheet: *const u8, sheet_len: usize, room: *mut u8, room_len: usize) -> u64;
 }
 
 /// Judges the sheet, and writes the answer record to the first bytes of the room unless the sheet is refused. The bytes past the record
@@ -232,13 +405,34 @@ pub fn judge<'a>(sheet: &[u8], room: &'a mut [u8]) -> Answer<'a> {
     match answer >> 16 {
         0 => Answer::Holds(Values(&room[..place])),
         1 => Answer::Clashes(List(&room[..place])),
-        10 => Answer::Refused(Refusal::Length),
-        11 => Answer::Refused(Refusal::Version),
-        12 => Answer::Refused(Refusal::Shape),
-        13 => Answer::Refused(Refusal::WrongTerm(TermNumber(place as u8))),
-        14 => Answer::Refused(Refusal::WrongEntry(EntryNumber(place as u8))),
-        15 => Answer::Refused(Refusal::Room),
+        number => Answer::Refused(refusal(number.into(), place)),
+    }
+}
+
+fn refusal(number: u64, place: usize) -> Refusal {
+    match number {
+        10 => Refusal::Length,
+        11 => Refusal::Version,
+        12 => Refusal::Shape,
+        13 => Refusal::WrongTerm(TermNumber(place as u8)),
+        14 => Refusal::WrongEntry(EntryNumber(place as u8)),
+        15 => Refusal::Room,
         number => unreachable!("the contract has no number {number}"),
+    }
+}
+
+/// Writes a reason for a clash to the first bytes of the room, unless the sheet is refused or holds or the room is too short. The bytes past
+/// the record keep what they held. Any bytes and any two lengths are allowed.
+pub fn reason<'a>(sheet: &[u8], room: &'a mut [u8]) -> Reasoned<'a> {
+    // SAFETY: the function has no precondition but two slices that don't overlap, and these are.
+    let answer =
+        unsafe { baruvkesh_reason(sheet.as_ptr(), sheet.len(), room.as_mut_ptr(), room.len()) };
+    let place = (answer & 0xFFFF_FFFF) as usize;
+    match answer >> 32 {
+        1 => Reasoned::Written(Reason(&room[..place])),
+        25 => Reasoned::Short,
+        26 => Reasoned::Holds,
+        number => Reasoned::Refused(refusal(number, place)),
     }
 }
 

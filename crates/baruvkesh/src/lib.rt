@@ -1,8 +1,10 @@
-// The calls for other languages: a static library with two functions of C's calling convention.
-// They are the panel's `judge` and the transcript's `transcribe`, each with its answer in one number, and promise what those promise.
+// The calls for other languages: a static library with three functions of C's calling convention.
+// They are the panel's `judge`, the transcript's `transcribe` and the call for reasons, each with its answer in one number, and promise what
+// those promise.
 ghost use Prim.Native.Nat.{_/_, _%_};
 ghost use Rattle.promise.specs.Answered.{Answered};
-ghost use Rattle.baruvkesh.specs.Called.{Called};
+ghost use Rattle.reason.specs.Reasoned.{Reasoned};
+ghost use Rattle.baruvkesh.specs.Called.{places, Called};
 
 // 2^32: places below it fit the answer's low half.
 const PLACES: u64 = 4294967296;
@@ -27,4 +29,13 @@ pub extern "C" fn baruvkesh_transcribe(text: &[u8], room: &mut [u8]) -> u64
     }
     let typed = transcript::transcribe(text, room);
     (typed.number() as u64) * PLACES + (typed.place() as u64)
+}
+
+// The answer's number × 2^32 plus its place.
+#[no_mangle]
+pub extern "C" fn baruvkesh_reason(sheet: &[u8], room: &mut [u8]) -> u64
+    ensures { λ r. ⌜ Reasoned (now (sheet .entry)) (now (room .entry)) (now (room .exit)) (r / places) (r % places) ⌝ }
+{
+    let reply = reason::reason(sheet, room);
+    (reply.number() as u64) * PLACES + (reply.place() as u64)
 }

@@ -30,7 +30,7 @@ pub fn write(sheet: &[u8], room: &mut [u8], d: &mut [u32]) -> usize
 }
 
 // With every entry marked, takes away the marks of those that aren't needed.
-fn leave_out(sheet: &[u8], marks: &mut [bool], d: &mut [u32])
+pub fn leave_out(sheet: &[u8], marks: &mut [bool], d: &mut [u32])
     requires { ⌜ Sized (now sheet) × WellFormed (sheetOf (now sheet)) ⌝ }
     requires { ⌜ (countEntries (sheetOf (now sheet)) ≤ length (now marks)) × (length (now d) ≡ cells) ⌝ }
     requires { ⌜ Clashes (sheetOf (now sheet)) (marked (now marks)) × ((x : ℕ) → x < countEntries (sheetOf (now sheet)) → marked (now marks) x ≡ true) ⌝ }

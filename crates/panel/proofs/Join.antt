@@ -13,8 +13,7 @@ use Rattle.sheet.specs.Decode.{sheetOf}
 use Rattle.sheet.specs.Limits.{maxEntries}
 use Rattle.sheet.specs.Sheet.{Sheet, countTerms, WellFormed}
 use Rattle.sheet.proofs.Decode.{length-each}
-use Rattle.meaning.specs.Meaning.{Clashes}
-use Rattle.meaning.proofs.Meaning.{meet-fewer, clashes-upward}
+use Rattle.meaning.proofs.Meaning.{meet-fewer}
 use Rattle.grounds.specs.Table.{fine, refused, refusal}
 use Rattle.grounds.proofs.Replies.{fine-refused}
 use Rattle.answer.specs.Record.{listed, holdsRecord, clashesRecord}
@@ -26,19 +25,8 @@ use Rattle.values.specs.Written.{recordLength, Written}
 use Rattle.values.proofs.Limits.{listed-length, listed-at}
 use Rattle.blame.specs.Blamed.{Blamed}
 use Rattle.blame.proofs.Blame.{all-marked}
-use Rattle.promise.specs.Answered.{over, SaysHolds, SaysClashes, Decided, Answered}
-
--- a record in the first bytes, and past it the bytes as they were
-recorded : (answer old new : List ℕ) → length new ≡ length old → (size : ℕ) → size ≡ length answer → take size new ≡ answer →
-    ((k : ℕ) → size ≤ k → getD new k 0 ≡ getD old k 0) → new ≡ over answer old
-recorded answer old new l size e bytes kept =
-    sym (take-append-drop size new) ∙ ap (λ (b : List ℕ). b ++ drop size new) bytes ∙ ap (λ (b : List ℕ). answer ++ b) (past ∙ ap (λ (n : ℕ). drop n old) e)
-  where
-    past : drop size new ≡ drop size old
-    past = ext-getD 0 _ _ (simp length-drop (omega arith)) (λ i h. getD-drop size new i 0 ∙ kept _ (omega arith) ∙ sym (getD-drop size old i 0))
-
-pub all-clash : (s : Sheet) → Clashes s (marked (replicate maxEntries true)) → Clashes s every
-all-clash s c = clashes-upward s _ every (λ x l h. refl) c
+use Rattle.promise.specs.Answered.{SaysHolds, SaysClashes, Decided, Answered}
+use Rattle.promise.proofs.Recorded.{recorded}
 
 module _ (s : Sheet) (old new : List ℕ) (same : length new ≡ length old) where
   pub says-holds : WellFormed s → (d : ℕ → ℕ → ℕ) → Settled s (marked (replicate maxEntries true)) d → Written s d old new → SaysHolds s old new 0 (recordLength s)

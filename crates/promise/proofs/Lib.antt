@@ -1,3 +1,4 @@
 pub mod Unique
 pub mod Exactly
 pub mod Listing
+pub mod Recorded

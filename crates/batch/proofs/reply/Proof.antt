@@ -4,7 +4,9 @@ use mathlib.Core.Path.{ap, _∙_}
 use lib.ListN.{length, length-set}
 use native.Mathlib.Omega.{arith}
 use borrow.Author.Needs.{needs}
-use Rattle.batch.proofs.Replied.{replied}
+use Rattle.sheet.specs.Limits.{roomNeeded}
+use Rattle.promise.specs.Answered.{Answered}
+use Rattle.framed.proofs.Framed.{replied-whole}
 use Rattle.batch.proofs.reply.Statement.{statement}
 use Rattle.batch.proofs.reply.Tie as tie
 
@@ -37,7 +39,10 @@ returns c =
     let begun = judged .before .before .before .before in
     let long = ap length (begun .pre) in
     let a = rw (begun .pre, ← numbered .number .ensures, ← placed .place .ensures) at (judged .judge .ensures) in
-    replied _ (begun .args .bytes .now) (judged .judge .last .1 .0) _ _ _ _ (omega arith) (omega arith) (same-length c ∙ long) (omega arith) a (wrote .write .ensures .0) (wrote .write .ensures .1)
+    record {
+      answered = replied-whole (Answered _ _) 2 roomNeeded (begun .args .bytes .now) (judged .judge .last .1 .0) _ _ _ _ (omega arith) (omega arith)
+          (same-length c ∙ long) (omega arith) a (wrote .write .ensures .0) (wrote .write .ensures .1);
+    }
 
 pub reply-spec : {M : Type 1} → statement M
 reply-spec =

@@ -5,8 +5,9 @@ use lib.ListN.{length, length-set}
 use native.Mathlib.Omega.{arith}
 use borrow.Author.Needs.{needs}
 use Rattle.transcript.proofs.Place.{place-within}
-use Rattle.batch_text.specs.Reply.{mostText}
-use Rattle.batch_text.proofs.Replied.{lent-full, replied}
+use Rattle.transcript.specs.Transcribed.{Transcribed}
+use Rattle.framed.proofs.Framed.{lent-full, replied}
+use Rattle.batch_text.specs.Reply.{mostRoom, mostText}
 use Rattle.batch_text.proofs.reply.Statement.{statement}
 use Rattle.batch_text.proofs.reply.Tie as tie
 
@@ -39,8 +40,11 @@ returns c =
     let typed = numbered .before .before .before in
     let begun = typed .before .before .before .before in
     let long = ap length (begun .pre .2) in
-    let t = rw (lent-full (begun .args .size) (begun .args .bytes .now) (begun .pre .1) (begun .pre .2), ← numbered .number .ensures, ← placed .place .ensures) at (typed .transcribe .ensures) in
-    replied _ (begun .args .bytes .now) (typed .transcribe .last .1 .0) _ _ (begun .args .size) _ _ (omega arith) (omega arith) (begun .pre .1) (same-length c ∙ long) (omega arith) t (wrote .write .ensures .0) (wrote .write .ensures .1)
+    let t = rw (lent-full 5 (begun .args .size) mostRoom 0xAA (begun .args .bytes .now) (begun .pre .1) (begun .pre .2), ← numbered .number .ensures, ← placed .place .ensures) at (typed .transcribe .ensures) in
+    record {
+      transcribed = replied (Transcribed _ _) 4 (begun .args .size) (begun .args .bytes .now) (typed .transcribe .last .1 .0) _ _ _ _ (omega arith) (omega arith)
+          (omega (arith, same-length c)) (omega arith) t (wrote .write .ensures .0) (wrote .write .ensures .1);
+    }
 
 pub reply-spec : {M : Type 1} → statement M
 reply-spec =

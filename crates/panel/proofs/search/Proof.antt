@@ -6,7 +6,8 @@ use native.Mathlib.Omega.{arith}
 use borrow.Author.Needs.{needs}
 use Rattle.verdict.specs.Judged.{numberOf}
 use Rattle.promise.proofs.Listing.{within-short}
-use Rattle.panel.proofs.Join.{says-holds, all-clash, says-clashes}
+use Rattle.blame.proofs.Blame.{all-clash}
+use Rattle.panel.proofs.Join.{says-holds, says-clashes}
 use Rattle.panel.proofs.search.Statement.{statement}
 use Rattle.panel.proofs.search.Tie as tie
 

@@ -1,0 +1,2 @@
+mod Join
+pub mod Unique

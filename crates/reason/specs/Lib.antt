@@ -1,0 +1,2 @@
+pub mod Reasoned
+pub mod OneReason
