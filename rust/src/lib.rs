@@ -1,7 +1,8 @@
 //! A second opinion on a sheet: a panel that shares nothing with the proved one but document 01,
 //! "What should be built, and its rules" (and the frames in which `batch` is asked). The two are
 //! compared on random sheets, and their speed is measured against each other. Beside it is a reader
-//! of sheets typed as text, resting on request 1 of document 02, which is compared on random texts.
+//! of sheets typed as text, resting on request 1 of document 02, which is compared on random texts,
+//! and a check and a writer of reasons, resting on requests 4 and 5.
 //!
 //! - `sheet` reads the fields and sends bad sheets back;
 //! - `groups`, `gaps`, `knots`, `order` and `functions` know what is tied and how to tie more;
@@ -12,6 +13,8 @@
 //!   but the reading of fields;
 //! - `shortcut` names the document's shortcuts, which a panel can take on purpose;
 //! - `text` reads a sheet typed as text, and names the slips that a reader can make on purpose;
+//! - `reason` reads, checks and writes reasons, and names the lapses that a writer can have on
+//!   purpose;
 //! - `random` makes sheets and texts to try, for the programs that compare and time panels;
 //! - `comparing` is what the programs that compare have in common.
 
@@ -28,6 +31,7 @@ pub mod meaning;
 mod order;
 mod panel;
 pub mod random;
+pub mod reason;
 pub mod sheet;
 mod shortcut;
 pub mod text;

@@ -1,11 +1,12 @@
 //! The program `second`: one sheet from standard input and a line for it, or many sheets in frames
-//! and an answer to each. The same of texts.
+//! and an answer to each, or a reason. The same of texts.
 //!
 //! Rests on "When the panel sends a sheet back" for the line, and on the paper on byte forms for the
-//! frames of texts.
+//! frames of texts and of reasons.
 
+use second::reason::{Lapse, Writer};
 use second::text::{Reader, Slip};
-use second::{sheet, text, Panel, Shortcut};
+use second::{reason, sheet, text, Panel, Shortcut};
 use std::io::{self, BufReader, BufWriter, Read, Write};
 use std::process::ExitCode;
 
@@ -34,6 +35,11 @@ fn main() -> ExitCode {
             Some(slip) => batch_text(Reader::with(slip)),
             None => return usage(),
         },
+        ["batch_reason"] => batch_reason(Writer::new()),
+        ["batch_reason", name] => match Lapse::from_name(name) {
+            Some(lapse) => batch_reason(Writer::with(lapse)),
+            None => return usage(),
+        },
         _ => return usage(),
     };
     match done {
@@ -48,9 +54,11 @@ fn main() -> ExitCode {
 fn usage() -> ExitCode {
     let shortcuts = Shortcut::ALL.map(Shortcut::name).join("|");
     let slips = Slip::ALL.map(|(_, name)| name).join("|");
+    let lapses = Lapse::ALL.map(|(_, name)| name).join("|");
     eprintln!(
         "second < SHEET\nsecond batch [{shortcuts}] < FRAMES > ANSWERS\n\
-         second typed < TEXT\nsecond batch_text [{slips}] < FRAMES > ANSWERS"
+         second typed < TEXT\nsecond batch_text [{slips}] < FRAMES > ANSWERS\n\
+         second batch_reason [{lapses}] < FRAMES > ANSWERS"
     );
     ExitCode::from(2)
 }
@@ -131,6 +139,37 @@ fn batch_text(reader: Reader) -> io::Result<()> {
         answers.write_all(&[number])?;
         answers.write_all(&place.to_be_bytes())?;
         answers.write_all(&room)?;
+    }
+    answers.flush()
+}
+
+/// A frame is the room's size in four bytes, a count in two, and so many bytes of a sheet; the
+/// answer to it is the number, the place, and the whole room where a reason is in it. Where none is,
+/// a byte tells whether the room is as it was. It ends as a batch of sheets does.
+fn batch_reason(mut writer: Writer) -> io::Result<()> {
+    let mut frames = BufReader::new(io::stdin().lock());
+    let mut answers = BufWriter::new(io::stdout().lock());
+    let (mut size, mut count) = ([0; 4], [0; 2]);
+    let mut lent = [0; LONGEST_FRAME];
+    while fill(&mut size, &mut frames, &mut answers)? {
+        let size = u32::from_be_bytes(size) as usize;
+        if size > reason::ROOM || !fill(&mut count, &mut frames, &mut answers)? {
+            break;
+        }
+        let length = usize::from(u16::from_be_bytes(count));
+        if length > LONGEST_FRAME || !fill(&mut lent[..length], &mut frames, &mut answers)? {
+            break;
+        }
+        let mut room = vec![FILL; size];
+        let (number, place) = writer.write(&lent[..length], &mut room);
+        answers.write_all(&[number])?;
+        answers.write_all(&place.to_be_bytes())?;
+        if number == 1 {
+            answers.write_all(&room)?;
+        } else {
+            let untouched = room.iter().all(|&byte| byte == FILL);
+            answers.write_all(&[u8::from(untouched)])?;
+        }
     }
     answers.flush()
 }

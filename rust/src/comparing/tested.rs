@@ -18,7 +18,32 @@ pub trait Question: Send + 'static {
     /// The bytes that are sent.
     fn frame(&self) -> Vec<u8>;
     /// How many bytes the answer has.
-    fn answer_length(&self) -> usize;
+    fn answer_length(&self) -> Length;
+}
+
+/// How many bytes an answer has.
+#[derive(Clone, Copy)]
+pub enum Length {
+    /// So many, whatever it says.
+    Fixed(usize),
+    /// A head of so many; behind it so many more if the head begins with that number, and else one.
+    ByNumber {
+        head: usize,
+        number: u8,
+        more: usize,
+    },
+}
+
+impl Length {
+    /// Given as many bytes as are surely there, how many there are.
+    fn of(self, answer: &[u8]) -> usize {
+        match self {
+            Length::Fixed(length) => length,
+            Length::ByNumber { head, .. } if answer.len() < head => head,
+            Length::ByNumber { head, number, more } if answer[0] == number => head + more,
+            Length::ByNumber { head, .. } => head + 1,
+        }
+    }
 }
 
 /// What there is instead of an answer.
@@ -124,7 +149,7 @@ impl Drop for Running {
 fn write<Q: Question>(
     mut input: ChildStdin,
     questions: impl Iterator<Item = Q>,
-    announce: Sender<usize>,
+    announce: Sender<Length>,
     send: SyncSender<Q>,
 ) {
     for question in questions {
@@ -138,11 +163,16 @@ fn write<Q: Question>(
     }
 }
 
-fn read(mut output: ChildStdout, announced: Receiver<usize>, hear: SyncSender<Heard>) {
+fn read(mut output: ChildStdout, announced: Receiver<Length>, hear: SyncSender<Heard>) {
     loop {
-        let length = announced.recv().unwrap_or(1);
-        let mut answer = Vec::new();
-        let _ = output.by_ref().take(length as u64).read_to_end(&mut answer);
+        let announced = announced.recv().unwrap_or(Length::Fixed(1));
+        let (mut answer, mut length) = (Vec::new(), 0);
+        // The rest is read once the head has told how long it is.
+        while answer.len() == length && announced.of(&answer) > length {
+            let more = announced.of(&answer) - length;
+            length += more;
+            let _ = output.by_ref().take(more as u64).read_to_end(&mut answer);
+        }
         let heard = match answer.len() {
             bytes if bytes == length => Ok(answer),
             bytes => Err(Silence::Ended(bytes, length)),

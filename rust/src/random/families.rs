@@ -1,6 +1,7 @@
 //! The families of random sheets. Each is a recipe for a place where a panel could go wrong.
 
 use super::judged;
+use super::reasons;
 use super::sheet::Sheet;
 use super::wrong;
 use super::Random;
@@ -99,6 +100,25 @@ pub const FAMILIES: [Family; 14] = [
         name: "bytes",
         about: "sheets that are cut or lengthened, and bytes that never were a sheet",
         make: wrong::bytes,
+    },
+];
+
+/// More families, for writers of reasons: what is hard there is easy to judge.
+pub const FOR_REASONS: [Family; 3] = [
+    Family {
+        name: "walls",
+        about: "applications that bounds tie at one gap and equal arguments at another",
+        make: |random| made(random, reasons::walls),
+    },
+    Family {
+        name: "rings",
+        about: "cycles over every point and the zero level",
+        make: |random| made(random, reasons::rings),
+    },
+    Family {
+        name: "apart",
+        about: "terms tied at all gaps, and entries that know them",
+        make: |random| made(random, reasons::apart),
     },
 ];
 

@@ -37,7 +37,7 @@ const FALSE: OnEquals = [
 ];
 
 /// Says a = b + c, in one of the ways that tie two terms.
-fn tie(random: &mut Random, sheet: &mut Sheet, a: Term, b: Term, c: i64) {
+pub fn tie(random: &mut Random, sheet: &mut Sheet, a: Term, b: Term, c: i64) {
     match random.below(5) {
         0 => sheet.equal(a, b, c),
         1 => sheet.equal(b, a, -c),
@@ -53,7 +53,7 @@ fn tie(random: &mut Random, sheet: &mut Sheet, a: Term, b: Term, c: i64) {
 }
 
 /// Says that a and b differ, in one of the ways that can be said.
-fn part(random: &mut Random, sheet: &mut Sheet, a: Term, b: Term) {
+pub fn part(random: &mut Random, sheet: &mut Sheet, a: Term, b: Term) {
     match random.below(6) {
         0 => sheet.under(a, b, 0),
         1 => sheet.at_most(b, a, -1),

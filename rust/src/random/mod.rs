@@ -8,6 +8,7 @@
 pub mod families;
 pub mod judged;
 mod levels;
+mod reasons;
 pub mod sheet;
 pub mod texts;
 mod typist;

@@ -1,10 +1,12 @@
 //! What the second opinion is held to.
 
 mod common;
+mod damaged;
 mod document;
 mod form;
 mod naive;
 mod program;
 mod random;
+mod reasons;
 mod texts;
 mod wide;

@@ -1,5 +1,6 @@
 //! The program: one line for a sheet or a text, and batches of frames.
 
+use second::reason::{self, Lapse, Writer};
 use second::sheet::ROOM;
 use second::text::{Reader, Slip};
 use second::Panel;
@@ -147,6 +148,65 @@ fn a_batch_of_texts_may_make_a_slip() {
     assert_eq!(output.stdout, text_answer(Reader::with(slip), 1_542, text));
 }
 
+/// A frame of a sheet that wants a reason, and the answer to it.
+fn reason_frame(room: u32, sheet: &[u8]) -> Vec<u8> {
+    let count = sheet.len() as u16;
+    [&room.to_be_bytes()[..], &count.to_be_bytes(), sheet].concat()
+}
+
+fn reason_answer(mut writer: Writer, room: u32, sheet: &[u8]) -> Vec<u8> {
+    let mut room = vec![0xAA; room as usize];
+    let (number, place) = writer.write(sheet, &mut room);
+    if number != 1 {
+        room = vec![u8::from(room.iter().all(|&byte| byte == 0xAA))];
+    }
+    [&[number][..], &place.to_be_bytes(), &room].concat()
+}
+
+#[test]
+fn a_batch_of_reasons_answers_every_whole_frame_before_one_cut_short_or_too_large() {
+    let enough = reason::ROOM as u32;
+    let asked = [
+        (enough, read("01")),
+        (enough - 1, read("01")),
+        (0, read("01")),
+        (0, read("02")),
+        (enough, read("02")),
+        (0, Vec::new()),
+        (enough, vec![0; 4_096]),
+        (1, read("r13c")),
+        (enough, read("14b")),
+    ];
+    let frame = |asked: &(u32, Vec<u8>)| reason_frame(asked.0, &asked.1);
+    let frames: Vec<u8> = asked.iter().flat_map(frame).collect();
+    let answer = |asked: &(u32, Vec<u8>)| reason_answer(Writer::new(), asked.0, &asked.1);
+    let answers: Vec<u8> = asked.iter().flat_map(answer).collect();
+    let cut = &reason_frame(enough, &read("01"))[..53];
+    let too_large = reason_frame(enough + 1, &read("01"));
+    let too_long = reason_frame(enough, &[0; 4_097]);
+    for end in [
+        &[][..],
+        &[0],
+        &[0, 0, 0],
+        &[0, 0, 0, 0, 0],
+        cut,
+        &too_large,
+        &too_long,
+    ] {
+        let output = run(&["batch_reason"], &[&frames, end].concat());
+        assert!(output.status.success());
+        assert!(output.stdout == answers, "{end:?}");
+    }
+}
+
+#[test]
+fn a_batch_of_reasons_may_have_a_lapse() {
+    let (lapse, sheet) = (Lapse::from_name("early").unwrap(), read("01"));
+    let output = run(&["batch_reason", "early"], &reason_frame(9, &sheet));
+    assert_eq!(output.stdout, reason_answer(Writer::with(lapse), 9, &sheet));
+    assert_eq!(output.stdout, [25, 0, 0, 0, 0, 0]);
+}
+
 #[test]
 fn a_batch_may_take_a_shortcut_and_other_words_are_not_understood() {
     let sheet = read("06");
@@ -159,6 +219,8 @@ fn a_batch_may_take_a_shortcut_and_other_words_are_not_understood() {
         &["batch", "once", "twice"],
         &["batch", "again"],
         &["batch_text", "once"],
+        &["batch_reason", "once"],
+        &["batch_reason", "early", "writes"],
         &["typed", "again"],
     ] {
         let output = run(arguments, &[]);

@@ -4,13 +4,14 @@
 //! library.
 
 mod answer;
+mod reasons;
 mod report;
 mod texts;
 
 use answer::{faults, Answer, FRAME};
 use report::Report;
 use second::comparing::ask::{Ask, Choice};
-use second::comparing::tested::{Question, Silence, Tested};
+use second::comparing::tested::{Length, Question, Silence, Tested};
 use second::random::families::{Family, FAMILIES};
 use second::{Panel, Shortcut};
 use std::process::ExitCode;
@@ -28,6 +29,8 @@ compare --shortcuts
     lists the names that the command `second batch` takes, each for a wrong panel
 compare texts ..
     the same of readers of texts; by itself it says what it can be asked for
+compare reasons ..
+    the same of writers of reasons, which are held to the check of reasons
 The status is 0 if nothing differs, 1 if something does, 2 if the call is wrong or the command can't
 be started, and 3 if so few or so many sheets hold that the comparison means little.";
 
@@ -44,17 +47,19 @@ impl Question for Sent {
         [&length.to_be_bytes(), &self.sheet[..]].concat()
     }
 
-    fn answer_length(&self) -> usize {
-        FRAME
+    fn answer_length(&self) -> Length {
+        Length::Fixed(FRAME)
     }
 }
 
 fn main() -> ExitCode {
     let args: Vec<String> = std::env::args().skip(1).collect();
-    // One program for both: a second one would cost the gate as much time again to build.
+    // One program for all: another one would cost the gate as much time again to build.
     if let Some((first, rest)) = args.split_first() {
-        if first == "texts" {
-            return texts::main(rest);
+        match first.as_str() {
+            "texts" => return texts::main(rest),
+            "reasons" => return reasons::main(rest),
+            _ => {}
         }
     }
     if args == ["--families"] {

@@ -8,7 +8,7 @@ mod shown;
 
 use report::Report;
 use second::comparing::ask::{Ask, Choice};
-use second::comparing::tested::{Question, Silence, Tested};
+use second::comparing::tested::{Length, Question, Silence, Tested};
 use second::random::texts::{TextFamily, TEXTS};
 use second::random::Random;
 use second::sheet;
@@ -77,8 +77,8 @@ impl Question for Sent {
         [&room.to_be_bytes()[..], &count.to_be_bytes(), &self.text].concat()
     }
 
-    fn answer_length(&self) -> usize {
-        HEAD + self.room
+    fn answer_length(&self) -> Length {
+        Length::Fixed(HEAD + self.room)
     }
 }
 

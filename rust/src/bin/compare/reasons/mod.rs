@@ -1,0 +1,223 @@
+//! Holds a writer of reasons to the check of reasons on seeded random sheets. The writer is any
+//! command that answers frames: the room's size in four bytes, a count in two and so many bytes of a
+//! sheet in; the number, the place in four bytes, and the whole room or a byte out. The rules are
+//! document 01's, request 4's and those of the paper on byte forms; the check and the first list are
+//! this package's library's.
+
+mod answer;
+mod report;
+
+use answer::{faults, Answer, Expected, HEAD, WRITTEN};
+use report::Report;
+use second::comparing::ask::{Ask, Choice};
+use second::comparing::tested::{Length, Question, Silence, Tested};
+use second::random::families::{Family, FAMILIES, FOR_REASONS};
+use second::random::Random;
+use second::reason::{Lapse, ROOM};
+use second::{sheet, Panel};
+use std::io::{self, Write};
+use std::process::ExitCode;
+
+const USAGE: &str = "\
+compare reasons [--seed N] [--sheets N] [--family NAME [--number N]] [--] COMMAND ARGS..
+    holds the command's reasons for random sheets to the check of reasons
+      --seed N       another seed makes other sheets; 1 if not given
+      --sheets N     sheets in all, at least 1, spread evenly over the families; 4000 if not given
+      --family NAME  sheets of this family only
+      --number N     this one sheet of the family only
+compare reasons --families
+    lists the families of sheets
+compare reasons --lapses
+    lists the names that the command `second batch_reason` takes, each for a wrong writer
+compare reasons --print NAME NUMBER SEED
+    writes the frame of this one sheet
+The status is 0 if nothing differs, 1 if something does, 2 if the call is wrong or the command can't
+be started, and 3 if so few sheets clash or get a refusal, or some kind of step is so rare, that the
+comparison means little.";
+
+/// All families of sheets: those that judges are tried on, and those for writers.
+fn families() -> impl Iterator<Item = &'static Family> {
+    FAMILIES.iter().chain(&FOR_REASONS)
+}
+
+/// How many those are.
+const COUNT: usize = FAMILIES.len() + FOR_REASONS.len();
+
+fn family(own: usize) -> &'static Family {
+    families().nth(own).expect("a family of this number")
+}
+
+/// Sheets that are tried until one clashes.
+const TRIES: u64 = 8;
+
+/// A sheet that has been sent, or is about to be, and the room that goes with it.
+pub struct Sent {
+    family: usize,
+    number: u64,
+    room: usize,
+    sheet: Vec<u8>,
+}
+
+impl Sent {
+    fn new(panel: &mut Panel, seed: u64, of: usize, number: u64) -> Sent {
+        let own = number * COUNT as u64 + of as u64;
+        let mut random = Random::of(seed, "rooms of reasons", own);
+        Sent {
+            family: of,
+            number,
+            room: room(&mut random),
+            sheet: clashing(panel, &mut random, family(of), seed, number),
+        }
+    }
+}
+
+/// Mostly what is enough: a room that is too small gets no reason. More isn't allowed in a frame.
+fn room(random: &mut Random) -> usize {
+    match random.below(24) {
+        0 | 1 => ROOM - 1,
+        2 => random.pick(&[0, 0, 1, 10, sheet::ROOM - 1, sheet::ROOM]),
+        3 => random.below(ROOM),
+        _ => ROOM,
+    }
+}
+
+/// A sheet of a family. Only one that clashes has a reason, so mostly some are tried until one does.
+fn clashing(
+    panel: &mut Panel,
+    random: &mut Random,
+    family: &Family,
+    seed: u64,
+    number: u64,
+) -> Vec<u8> {
+    let mut tried = (TRIES * number..).map(|number| family.sheet(seed, number));
+    let mut sheet = tried.next().expect("there is no end of sheets");
+    if random.one_in(8) {
+        return sheet;
+    }
+    for _ in 1..TRIES {
+        if panel.judge(&sheet, &mut [0; sheet::ROOM]).0 != 0 {
+            break;
+        }
+        sheet = tried.next().expect("there is no end of sheets");
+    }
+    sheet
+}
+
+impl Question for Sent {
+    fn frame(&self) -> Vec<u8> {
+        let (room, count) = (self.room as u32, self.sheet.len() as u16);
+        [&room.to_be_bytes()[..], &count.to_be_bytes(), &self.sheet].concat()
+    }
+
+    fn answer_length(&self) -> Length {
+        Length::ByNumber {
+            head: HEAD,
+            number: WRITTEN,
+            more: self.room,
+        }
+    }
+}
+
+/// What a call asks for, behind the word for reasons.
+pub fn main(args: &[String]) -> ExitCode {
+    let words: Vec<&str> = args.iter().map(String::as_str).collect();
+    match words[..] {
+        ["--families"] => {
+            for Family { name, about, .. } in families() {
+                println!("{name:12} {about}");
+            }
+            return ExitCode::SUCCESS;
+        }
+        ["--lapses"] => {
+            for (_, name) in Lapse::ALL {
+                println!("{name}");
+            }
+            return ExitCode::SUCCESS;
+        }
+        ["--print", name, number, seed] => {
+            let family = families().position(|family| family.name == name);
+            return match (family, number.parse(), seed.parse()) {
+                (Some(family), Ok(number), Ok(seed)) => {
+                    print(&Sent::new(&mut Panel::new(), seed, family, number).frame())
+                }
+                _ => usage(),
+            };
+        }
+        _ => {}
+    }
+    let choice = Choice {
+        count: "--sheets",
+        default: 4000,
+        families: families().map(|family| family.name).collect(),
+    };
+    let ask = match Ask::from(&choice, args.iter().cloned()) {
+        Some(ask) => ask,
+        None => return usage(),
+    };
+    let (seed, mut panel) = (ask.seed, Panel::new());
+    let sheets = ask
+        .each()
+        .map(move |(family, number)| Sent::new(&mut panel, seed, family, number));
+    match Tested::start(&ask.command, sheets) {
+        Ok(tested) => ExitCode::from(compare(ask, tested)),
+        Err(error) => {
+            eprintln!("{} can't be started: {error}", ask.command[0]);
+            ExitCode::from(2)
+        }
+    }
+}
+
+fn usage() -> ExitCode {
+    eprintln!("{USAGE}");
+    ExitCode::from(2)
+}
+
+fn print(frame: &[u8]) -> ExitCode {
+    match io::stdout().write_all(frame) {
+        Ok(()) => ExitCode::SUCCESS,
+        Err(_) => ExitCode::FAILURE,
+    }
+}
+
+/// Checks answer by answer until the sheets end or the answers do, and gives the status.
+fn compare(ask: Ask, tested: Tested<Sent>) -> u8 {
+    let mut report = Report::new(ask);
+    let ended = match silence(&tested, &mut report) {
+        Some(Silence::Ended(..)) => tested.end(),
+        _ => Ok(()),
+    };
+    if let Err(fault) = ended {
+        report.bad_end(&fault);
+    }
+    report.close()
+}
+
+/// Checks and reports, and gives what there is in the end instead of an answer.
+fn silence(tested: &Tested<Sent>, report: &mut Report) -> Option<Silence> {
+    let mut panel = Panel::new();
+    while let Some(sent) = tested.sent() {
+        let expected = Expected::of(&mut panel, &sent.sheet, sent.room);
+        report.count(&sent, &expected);
+        match tested.hear() {
+            Ok(frame) => {
+                let got = Answer::from_frame(&frame);
+                report.look(&got);
+                let faults = faults(&sent.sheet, &expected, &got);
+                if !faults.is_empty() {
+                    report.difference(&sent, &expected, &got.words(), &faults);
+                }
+            }
+            Err(silence) => {
+                report.difference(&sent, &expected, &[silence.to_string()], &[]);
+                return Some(silence);
+            }
+        }
+    }
+    let last = tested.hear().err();
+    match last {
+        Some(Silence::Ended(0, _)) => {}
+        Some(Silence::Late) => report.bad_end("the command doesn't end at the end of its input"),
+        _ => report.bad_end("the command answers more than it was asked"),
+    }
+    last
+}
