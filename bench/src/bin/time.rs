@@ -1,12 +1,14 @@
-//! Times the proved panel and the independent one on the same sheets, turn by turn; and readers of
-//! texts: the proved one, the independent one and a quick one.
+//! Times the proved panel and the independent one on the same sheets, turn by turn; the proved call
+//! for reasons beside the proved panel; and readers of texts: the proved one, the independent one and
+//! a quick one.
 //!
 //!     time          a line for each sheet and text: what it is, nanoseconds of each (- for one that isn't built in)
 //!     time texts    the same for texts alone
 //!     time smt      the same sheets as questions to an SMT solver, each after a line that says what it is
 //!
 //! A verdict is a call on a sheet that holds, and so makes no list; a first list is a call on one
-//! that clashes. A reading is a call on a text that is one, and its size the text's bytes.
+//! that clashes, and a reason is one on the same sheet that makes the list and writes a reason for it.
+//! A reading is a call on a text that is one, and its size the text's bytes.
 
 use bench::timing::{side_by_side, Side};
 use bench::{quick, SIZES};
@@ -40,6 +42,10 @@ fn sheets(smt: bool) {
                     ask(&name, &sheet, &list);
                 } else {
                     time(&name, &sheet.bytes());
+                    #[cfg(feature = "panel")]
+                    if !holds {
+                        reason(&format!("{family} {size} reason"), &sheet.bytes(), &list);
+                    }
                 }
             }
         }
@@ -232,6 +238,18 @@ fn proved(sheet: &[u8]) -> Side<'_> {
 #[cfg(not(feature = "panel"))]
 fn proved(_: &[u8]) -> Side<'_> {
     None
+}
+
+/// The call for reasons beside the panel's, which makes the same list and writes no reason.
+#[cfg(feature = "panel")]
+fn reason(name: &str, sheet: &[u8], list: &[u8]) {
+    let mut room = vec![0; baruvkesh::REASON_ROOM];
+    let reasoned = || match baruvkesh::reason(sheet, &mut room) {
+        baruvkesh::Reasoned::Written(reason) => 8 + reason.entries().count() as u16,
+        other => panic!("{name}: {other:?}"),
+    };
+    let place = 8 + list.len() as u16;
+    side_by_side(name, [Some(Box::new(reasoned)), proved(sheet)], place);
 }
 
 fn texts() {
