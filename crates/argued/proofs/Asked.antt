@@ -19,7 +19,7 @@ use Rattle.ties.specs.Ties.{Broken}
 use Rattle.forest.specs.Labels.{Labelled}
 use Rattle.laid.specs.Laid.{Laid}
 use Rattle.needed.specs.Needed.{Gathered}
-use Rattle.sketch.specs.Sketch.{place}
+use Rattle.sketch.specs.Sketch.{place, walksLength}
 use Rattle.drafted.specs.Ending.{NamesBelow, Legible}
 use Rattle.drafted.proofs.Named.{few-ties, ledger-name, name-below}
 use Rattle.drafted.proofs.Readings.{ties-legible}
@@ -62,10 +62,10 @@ module _ {sheet froms tos codes names ties labels best room : List ℕ} {m liste
           way-back (points s) listed put froms tos codes l (Y .drafted .sound) (cell best) (Y .grew .exact) (Y .grew .shut l),
         )
 
-  pub gather-asks : {b n w : ℕ} → b ≡ cells → count ≤ n → 258 * place ≤ w →
+  pub gather-asks : {b n w : ℕ} → b ≡ cells → count ≤ n → walksLength ≤ w →
       (Sized sheet × WellFormed s × (b ≡ cells))
       × ((Sound (points s) (bounds listed froms tos codes) × (listed ≤ length names))
-      × (((length ties ≡ stride) × (length labels ≡ cells) × (count ≤ countTerms s) × (count ≤ n) × (258 * place ≤ w))
+      × (((length ties ≡ stride) × (length labels ≡ cells) × (count ≤ countTerms s) × (count ≤ n) × (walksLength ≤ w))
       × (Laid s froms tos codes names names ties labels m listed count × ((b : ℕ) → b < m → getD names b 0 < 1024))))
   gather-asks p q r = (
     (Y .sized, Y .formed, p),
@@ -80,7 +80,7 @@ module _ {sheet froms tos codes names ties labels best room : List ℕ} {m liste
 
   -- what is gathered can be written
   pub writable : {walks walks' : List ℕ} {need need' : List Bool} → Gathered s froms tos codes names ties count walks walks' need need' →
-      258 * place ≤ length walks' → count ≤ length need' → Writable room ties names walks' need' k count
+      walksLength ≤ length walks' → count ≤ length need' → Writable room ties names walks' need' k count
   writable {walks' = walks'} G full q = record {
     enough = Y .enough;
     few = Y .few;

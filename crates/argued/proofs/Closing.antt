@@ -16,6 +16,7 @@ use Rattle.whole.specs.Whole.{plus, minus}
 use Rattle.whole.proofs.Parts.{sub-parts}
 use Rattle.cells.specs.Cells.{cell}
 use Rattle.order.specs.First.{Set, marked}
+use Rattle.sheet.specs.Limits.{maxTerms}
 use Rattle.sheet.specs.declared.Entry.{Entry as Code-Entry}
 use Rattle.sheet.specs.Decode.{sheetOf}
 use Rattle.sheet.specs.Says.{biasedSays, entrySays}
@@ -25,7 +26,7 @@ use Rattle.layers.specs.Bounds.{bounds}
 use Rattle.reasons.specs.Step.{Step}
 use Rattle.reasons.specs.Pruned.{pruned, Prunable}
 use Rattle.reasons.proofs.Pruned.{pruned-closes, pruned-spare}
-use Rattle.sketch.specs.Sketch.{place}
+use Rattle.sketch.specs.Sketch.{place, ending, walksLength}
 use Rattle.forest.specs.Labels.{PathMarked}
 use Rattle.needed.specs.Needed.{FoundBoth, FoundRound, Gathered}
 use Rattle.drafted.specs.Drafted.{Drafted}
@@ -52,13 +53,13 @@ module _ {sheet froms tos codes names ties labels best room : List ℕ} {m liste
 
   -- bound `put` closes a walk
   module _ {w walks walks' : List ℕ} {before need₀ need' : List Bool}
-      (F : FoundRound (t + 1) (bounds put froms tos codes) names put 256 w walks before need₀)
+      (F : FoundRound (t + 1) (bounds put froms tos codes) names put ending w walks before need₀)
       (G : Gathered s froms tos codes names ties count walks walks' (set need₀ count true) need') (l : put < listed) (c : count < length need₀)
       (same : length walks' ≡ length walks) where
     pub round-marked : marked need' count ≡ true
     round-marked = G .stays count (getD-set-same need₀ count true false c)
 
-    pub round-readable : 258 * place ≤ length walks' → Readable count names walks' 256 × (getD walks' (256 * place) 0 < 129)
+    pub round-readable : walksLength ≤ length walks' → Readable count names walks' ending × (getD walks' (ending * place) 0 ≤ maxTerms)
     round-readable full =
         let L = round-legible (Y .formed) (Y .drafted) G full put l (rw e at F) same in
         (readable (Y .all-names) (omega arith) L, omega (arith, L .short))
@@ -113,7 +114,7 @@ module _ {sheet froms tos codes names ties labels best room : List ℕ} {m liste
 
   -- or behind a tie of them
   module _ {t : ℕ} (e : t ≡ countTerms (sheetOf sheet)) {w walks walks' : List ℕ} {before need₀ need' : List Bool}
-      (F : FoundBoth (t + 1) (bounds listed froms tos codes) (entry .a .0) (entry .b .0) names 256 w walks before need₀)
+      (F : FoundBoth (t + 1) (bounds listed froms tos codes) (entry .a .0) (entry .b .0) names ending w walks before need₀)
       (G : Gathered (sheetOf sheet) froms tos codes names ties count walks walks' (set (set need₀ count true) (count + 1) true) need')
       (c : count + 1 < length need₀) (same : length walks' ≡ length walks) where
     first-marked : marked (set (set need₀ count true) (count + 1) true) count ≡ true
@@ -125,7 +126,7 @@ module _ {sheet froms tos codes names ties labels best room : List ℕ} {m liste
     pub tie-marked : (marked need' count ≡ true) × (marked need' (count + 1) ≡ true)
     tie-marked = (G .stays count first-marked, G .stays (count + 1) second-marked)
 
-    pub tie-readable : 258 * place ≤ length walks' → Readable count names walks' 256 × Readable count names walks' 257
+    pub tie-readable : walksLength ≤ length walks' → Readable count names walks' ending × Readable count names walks' (ending + 1)
     tie-readable full =
         let (there, back) = tie-legible (Y .formed) (Y .drafted) G full (rw e at F) same in
         (readable (Y .all-names) (omega arith) there, readable (Y .all-names) (omega arith) back)

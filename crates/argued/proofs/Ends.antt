@@ -15,7 +15,7 @@ use Rattle.sheet.proofs.Decode.{length-each}
 use Rattle.reasons.specs.Step.{Bound, Step, byWalks, byFunctions, closingWalk, closingEntry}
 use Rattle.reasons.specs.Pruned.{rank, renamedWalk, renamed, prunedFrom, pruned}
 use Rattle.reasons.proofs.Rank.{rank-zero, pruned-length}
-use Rattle.sketch.specs.Sketch.{boundNamed, walkAt, howOf, tieStep, stepOf, stepsOf}
+use Rattle.sketch.specs.Sketch.{boundNamed, walkAt, howOf, tieStep, stepOf, stepsOf, ending}
 use Rattle.paper.specs.Record.{headLength, headBytes, stepHead, stepBytes, stepsBytes, countTies, reasonRoom}
 use Rattle.paper.specs.Written.{Appended, rankedBound, rankedWalk, Ranked, Nameable, Readable}
 use Rattle.paper.proofs.Heads.{signed-zero}
@@ -137,15 +137,15 @@ more-names l N = record { known = N .known; earlier = λ k. omega (arith, N .ear
 module _ {keep : Set} {ranks : List ℕ} (names ties walks : List ℕ) {count k kept : ℕ} (R : Ranked keep ranks count) (q : kept ≡ rank keep count)
     {old mid new : List ℕ} {at end : ℕ} (A : Appended old mid (headLength + k) at (stepsBytes (pruned keep (stepsOf names ties walks count))))
     (l : end ≤ reasonRoom) where
-  pub round-ends : {more : List ℕ} (a name : ℕ) → keep count ≡ true → Nameable count name → Readable count names walks 256 →
-      Appended mid more at end (stepBytes (closingWalk a (rankedBound ranks (boundNamed name) ∷ rankedWalk ranks (walkAt names walks 256)))) →
+  pub round-ends : {more : List ℕ} (a name : ℕ) → keep count ≡ true → Nameable count name → Readable count names walks ending →
+      Appended mid more at end (stepBytes (closingWalk a (rankedBound ranks (boundNamed name) ∷ rankedWalk ranks (walkAt names walks ending)))) →
       Appended more new 0 headLength (headBytes end kept k (kept + 1)) →
-      StepsWritten k (pruned keep (stepsOf names ties walks count ++ closingWalk a (boundNamed name ∷ walkAt names walks 256) ∷ [])) old new end
+      StepsWritten k (pruned keep (stepsOf names ties walks count ++ closingWalk a (boundNamed name ∷ walkAt names walks ending) ∷ [])) old new end
   unfolding renamedWalk countTies
   round-ends a name h N P B H =
-      let walk = boundNamed name ∷ walkAt names walks 256 in
+      let walk = boundNamed name ∷ walkAt names walks ending in
       let B' : Appended mid _ at end (stepBytes (closingWalk a (renamedWalk keep walk))) =
-      rw (bound-agrees keep ranks count R name N, place-agrees keep ranks count R names walks 256 P) at B in
+      rw (bound-agrees keep ranks count R name N, place-agrees keep ranks count R names walks ending P) at B in
       steps-written keep names ties walks count (closingWalk a walk ∷ []) (first-kept keep count h) A
       (one-step (closingWalk a (renamedWalk keep walk)) B') H (omega arith) (omega arith) l
 
@@ -158,18 +158,18 @@ module _ {keep : Set} {ranks : List ℕ} (names ties walks : List ℕ) {count k 
       (omega arith) (omega arith) l
 
   pub tie-ends : {tied more : List ℕ} {p : ℕ} (a b : ℕ) (c : ℤ) (e : ℕ) → keep count ≡ true → keep (count + 1) ≡ true →
-      Readable count names walks 256 → Readable count names walks 257 →
-      Appended mid tied at p (stepBytes (byWalks a b c (rankedWalk ranks (walkAt names walks 256)) (rankedWalk ranks (walkAt names walks 257)))) →
+      Readable count names walks ending → Readable count names walks (ending + 1) →
+      Appended mid tied at p (stepBytes (byWalks a b c (rankedWalk ranks (walkAt names walks ending)) (rankedWalk ranks (walkAt names walks (ending + 1))))) →
       Appended tied more p end (stepHead 3 e 0 (signedOf 8 0) 0 0) →
       Appended more new 0 headLength (headBytes end (kept + 1) k (kept + 2)) →
-      StepsWritten k (pruned keep (stepsOf names ties walks count ++ byWalks a b c (walkAt names walks 256) (walkAt names walks 257) ∷ closingEntry e ∷ []))
+      StepsWritten k (pruned keep (stepsOf names ties walks count ++ byWalks a b c (walkAt names walks ending) (walkAt names walks (ending + 1)) ∷ closingEntry e ∷ []))
       old new end
   unfolding countTies
   tie-ends a b c e h h' P Q B C H =
-      let there = walkAt names walks 256 in
-      let back = walkAt names walks 257 in
+      let there = walkAt names walks ending in
+      let back = walkAt names walks (ending + 1) in
       let B' : Appended mid _ at _ (stepBytes (byWalks a b c (renamedWalk keep there) (renamedWalk keep back))) =
-      rw (place-agrees keep ranks count R names walks 256 P, place-agrees keep ranks count R names walks 257 Q) at B in
+      rw (place-agrees keep ranks count R names walks ending P, place-agrees keep ranks count R names walks (ending + 1) Q) at B in
       steps-written keep names ties walks count (byWalks a b c there back ∷ closingEntry e ∷ []) (two-kept keep count h h') A
       (two-steps (byWalks a b c (renamedWalk keep there) (renamedWalk keep back)) (closingEntry e) B' (entry-step e C)) H
       (omega arith) (omega arith) l

@@ -20,7 +20,7 @@ ghost use Rattle.settled.specs.Settled.{points, Apart};
 ghost use Rattle.ties.specs.Ties.{Broken, BrokenAt};
 ghost use Rattle.reasons.specs.Step.{closingWalk};
 ghost use Rattle.reasons.specs.Pruned.{pruned};
-ghost use Rattle.sketch.specs.Sketch.{boundNamed, place, walkAt, stepsOf};
+ghost use Rattle.sketch.specs.Sketch.{boundNamed, place, ending, walkAt, stepsOf};
 ghost use Rattle.drafted.specs.Drafted.{Drafted};
 ghost use Rattle.drafted.specs.Ending.{pathSteps, tieSteps};
 ghost use Rattle.paper.specs.Record.{reasonRoom};
@@ -269,8 +269,8 @@ fn write_round(
     e: usize,
 ) -> usize
     requires { ⌜ Writable (now room) (now ties) (now names) (now walks) (now need) k count × (marked (now need) count ≡ true) ⌝ }
-    requires { ⌜ Readable count (now names) (now walks) 256 × (getD (now walks) (256 * place) 0 < 129) × (e < length (now names)) × Nameable count (getD (now names) e 0) ⌝ }
-    ensures { λ r. ⌜ StepsWritten k (pruned (marked (now (need .entry))) (stepsOf (now (names .entry)) (now (ties .entry)) (now (walks .entry)) count ++ closingWalk a (boundNamed (getD (now (names .entry)) e 0) ∷ walkAt (now (names .entry)) (now (walks .entry)) 256) ∷ [])) (now (room .entry)) (now (room .exit)) r ⌝ }
+    requires { ⌜ Readable count (now names) (now walks) ending × (getD (now walks) (ending * place) 0 ≤ maxTerms) × (e < length (now names)) × Nameable count (getD (now names) e 0) ⌝ }
+    ensures { λ r. ⌜ StepsWritten k (pruned (marked (now (need .entry))) (stepsOf (now (names .entry)) (now (ties .entry)) (now (walks .entry)) count ++ closingWalk a (boundNamed (getD (now (names .entry)) e 0) ∷ walkAt (now (names .entry)) (now (walks .entry)) ending) ∷ [])) (now (room .entry)) (now (room .exit)) r ⌝ }
 {
     let mut ranks = [0u8; cells::STRIDE];
     let kept = paper::rank(need, count, &mut ranks);
@@ -335,7 +335,7 @@ fn write_tie(
     e: EntryNumber,
 ) -> usize
     requires { ⌜ Writable (now room) (now ties) (now names) (now walks) (now need) k count × (count < maxTerms) × (marked (now need) count ≡ true) × (marked (now need) (count + 1) ≡ true) ⌝ }
-    requires { ⌜ Readable count (now names) (now walks) 256 × Readable count (now names) (now walks) 257 ⌝ }
+    requires { ⌜ Readable count (now names) (now walks) ending × Readable count (now names) (now walks) (ending + 1) ⌝ }
     ensures { λ r. ⌜ StepsWritten k (pruned (marked (now (need .entry))) (tieSteps (now (names .entry)) (now (ties .entry)) (now (walks .entry)) count a b (signedOf 8 c) (e .0))) (now (room .entry)) (now (room .exit)) r ⌝ }
 {
     let mut ranks = [0u8; cells::STRIDE];

@@ -31,7 +31,7 @@ use Rattle.reasons.specs.Reason.Rests.{terms}
 use Rattle.reasons.specs.Reason.Gathered.{own, further}
 use Rattle.reasons.specs.Pruned.{Prunable}
 use Rattle.reasons.proofs.Paths.{JoinsTwo, right-joins, one-path}
-use Rattle.sketch.specs.Sketch.{boundNamed, numbersAt, walkAt, stepOf, Fits}
+use Rattle.sketch.specs.Sketch.{boundNamed, numbersAt, walkAt, stepOf, Fits, ending}
 use Rattle.forest.specs.Labels.{PathMarked}
 use Rattle.forest.proofs.Groups.{apart}
 use Rattle.forest.proofs.Ways.{way-itself}
@@ -55,25 +55,25 @@ module _ {s : Sheet} {S : Set} {froms tos codes names ties labels : List ℕ} {m
     (G : Gathered s froms tos codes names ties count walks walks' need need') where
   pub round-prunable : {w : List ℕ} {before need₀ : List Bool} {d : ℕ → ℕ → ℕ} (e : ℕ) → e < listed →
       Exact (points s) (Listed (bounds e froms tos codes)) d → sumOf (getD codes e 0) (d (getD tos e 0) (getD froms e 0)) < base →
-      FoundRound (points s) (bounds e froms tos codes) names e 256 w walks before need₀ → ((t : ℕ) → marked before t ≡ true → ⊥) →
+      FoundRound (points s) (bounds e froms tos codes) names e ending w walks before need₀ → ((t : ℕ) → marked before t ≡ true → ⊥) →
       MarkedBehind count need₀ need → marked need count ≡ true → length walks' ≡ length walks →
       Prunable s S (roundSteps froms names ties walks' count e) count (marked need')
   round-prunable {d = d} e e< X u F none M h same =
       let to< = D .sound .to< e e< in
       let from< = D .sound .from< e e< in
-      let P = ending-kept W D G 256 (omega arith) (omega (arith, W .terms)) same (found-in (F .way)) in
+      let P = ending-kept W D G ending (omega arith) (omega (arith, W .terms)) same (found-in (F .way)) in
       let reached = sum-there (getD codes e 0) (d (getD tos e 0) (getD froms e 0)) (omega arith) .1 in
       let total = least-total X to< from< reached (P .goes) (P .least) in
       let A = marks-round (P .marks) (F .first) in
       let K = known W D (omega arith) (all-earlier W D e (omega arith)) (P .goes) in
-      let k = closingWalk (getD froms e 0) (boundNamed (getD names e 0) ∷ walkAt names walks' 256) in
+      let k = closingWalk (getD froms e 0) (boundNamed (getD names e 0) ∷ walkAt names walks' ending) in
       prunable W D G
       (one-more W D G k h
       (by-walk (omega arith)
-      (round-of W D walks' 256 e e< (fits W D G (one W D G k) (before-ending names ties walks' count (k ∷ []))) (P .few) (P .goes))
+      (round-of W D walks' ending e e< (fits W D G (one W D G k) (before-ending names ties walks' count (k ∷ []))) (P .few) (P .goes))
       (under-rules (added (kindOf (getD codes e 0)) (P .total)) (rw total (under _ _ d X _ _ _ from< to< (D .sound .near e e<) u))))
-      (λ t R. G .stays t (M .stays t (A .on t (round-in W D e (numbersAt walks' 256) e< K (round-rests R)))))
-      (λ t l h. ⊎-elim (λ g. absurd (none t g)) (λ N. rests-over (in-round W D e (numbersAt walks' 256) e< K N)) (A .only t (M .only t l h))))
+      (λ t R. G .stays t (M .stays t (A .on t (round-in W D e (numbersAt walks' ending) e< K (round-rests R)))))
+      (λ t l h. ⊎-elim (λ g. absurd (none t g)) (λ N. rests-over (in-round W D e (numbersAt walks' ending) e< K N)) (A .only t (M .only t l h))))
 
   pub path-prunable : {before need₀ : List Bool} {d : ℕ → ℕ → ℕ} {a b : ℕ} {c : ℤ} (x : ℕ) →
       Exact (points s) (Listed (bounds listed froms tos codes)) d → Saturated s d → BrokenEntry s S d x a b c →
@@ -101,14 +101,14 @@ module _ {s : Sheet} {S : Set} {froms tos codes names ties labels : List ℕ} {m
   module _ {w : List ℕ} {before need₀ : List Bool} {d : ℕ → ℕ → ℕ} {a b : ℕ} {c : ℤ} (x : ℕ)
       (X : Exact (points s) (Listed (bounds listed froms tos codes)) d) (K : BrokenEntry s S d x a b c)
       (far : cell labels count a ≡ cell labels count b → ⊥)
-      (F : FoundBoth (points s) (bounds listed froms tos codes) a b names 256 w walks before need₀)
+      (F : FoundBoth (points s) (bounds listed froms tos codes) a b names ending w walks before need₀)
       (none : (t : ℕ) → marked before t ≡ true → ⊥) (M : MarkedBehind count need₀ need) (h : marked need count ≡ true)
       (h' : marked need (count + 1) ≡ true) (same : length walks' ≡ length walks) where
     abbrev there : List Bound
-    there = walkAt names walks' 256
+    there = walkAt names walks' ending
 
     abbrev back : List Bound
-    back = walkAt names walks' 257
+    back = walkAt names walks' (ending + 1)
 
     abbrev joining : Step
     joining = byWalks a b c there back
@@ -135,10 +135,10 @@ module _ {s : Sheet} {S : Set} {froms tos codes names ties labels : List ℕ} {m
     few = omega (arith, W .terms)
 
     -- its two walks
-    way : InPlace (points s) (bounds listed froms tos codes) a b names 256 walks' before (F .need-between)
+    way : InPlace (points s) (bounds listed froms tos codes) a b names ending walks' before (F .need-between)
     way = way-there W D G F few same
 
-    way-back : InPlace (points s) (bounds listed froms tos codes) b a names 257 walks' (F .need-between) need₀
+    way-back : InPlace (points s) (bounds listed froms tos codes) b a names (ending + 1) walks' (F .need-between) need₀
     way-back = way-behind W D G F few same
 
     -- over listed bounds
@@ -153,8 +153,8 @@ module _ {s : Sheet} {S : Set} {froms tos codes names ties labels : List ℕ} {m
         let f = least-total X b< a< (K .tied .back .there) (way-back .goes) (way-back .least) ∙ kind-back _ _ d X a b c a< b< (K .tied) in
         let earlier = all-earlier W D listed (omega arith) in
         by-walks p q (apart (D .laid .labelled) F' a< far) (tied-within (X .table .closed) c few a< b< (K .tied))
-        (walk-of W D (omega arith) earlier F' walks' 256 (way .few) (rw e at (way .goes)))
-        (walk-of W D (omega arith) earlier F' walks' 257 (way-back .few) (rw f at (way-back .goes)))
+        (walk-of W D (omega arith) earlier F' walks' ending (way .few) (rw e at (way .goes)))
+        (walk-of W D (omega arith) earlier F' walks' (ending + 1) (way-back .few) (rw f at (way-back .goes)))
 
     both-tied : Tied steps (suc count) (entryAt s x .a) (entryAt s x .b) (entryAt s x .c) (count ∷ [])
     both-tied =
@@ -176,16 +176,16 @@ module _ {s : Sheet} {S : Set} {froms tos codes names ties labels : List ℕ} {m
       joining-kept R =
           G .stays t (M .stays t
           (tie-either there back
-          (λ T. way-back .marks .stays t (way .marks .on t (tie-in W D (numbersAt walks' 256) (listed-all (way .goes)) T)))
-          (λ T. way-back .marks .on t (tie-in W D (numbersAt walks' 257) (listed-all (way-back .goes)) T)) (walks-rest R)))
+          (λ T. way-back .marks .stays t (way .marks .on t (tie-in W D (numbersAt walks' ending) (listed-all (way .goes)) T)))
+          (λ T. way-back .marks .on t (tie-in W D (numbersAt walks' (ending + 1)) (listed-all (way-back .goes)) T)) (walks-rest R)))
 
       joining-rests : marked need₀ t ≡ true → Rests s steps count joining t
       joining-rests g =
           ⊎-elim
           (λ k. ⊎-elim (λ l. absurd (none t l))
-          (λ N. rests-over (tie-left there back (in-tie W D (numbersAt walks' 256) (listed-all (way .goes)) N)))
+          (λ N. rests-over (tie-left there back (in-tie W D (numbersAt walks' ending) (listed-all (way .goes)) N)))
           (way .marks .only t k))
-          (λ N. rests-over (tie-right there back (in-tie W D (numbersAt walks' 257) (listed-all (way-back .goes)) N)))
+          (λ N. rests-over (tie-right there back (in-tie W D (numbersAt walks' (ending + 1)) (listed-all (way-back .goes)) N)))
           (way-back .marks .only t g)
 
       entry-kept : Rests s steps (suc count) (closingEntry x) t → marked need' t ≡ true

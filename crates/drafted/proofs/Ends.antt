@@ -17,7 +17,7 @@ use Rattle.reasons.specs.Rules.{TieRight, Closing}
 use Rattle.reasons.specs.Reason.{Rests, Gathered as Gathers}
 use Rattle.reasons.specs.Reason.Gathered.{own, further}
 use Rattle.reasons.specs.Pruned.{Prunable}
-use Rattle.sketch.specs.Sketch.{stepOf, stepsOf}
+use Rattle.sketch.specs.Sketch.{stepOf, stepsOf, ending}
 use Rattle.needed.specs.Needed.{FoundBoth, Gathered}
 use Rattle.drafted.specs.Drafted.{Drafted}
 use Rattle.drafted.proofs.Named.{few-ties}
@@ -103,12 +103,12 @@ module _ {s : Sheet} {S : Set} {froms tos codes names ties labels : List ℕ} {m
       in-place-kept walks' (omega arith) e (λ k p q. G .walks-kept k (omega (arith, few-ties W D, W .terms))) P
 
   -- those of a tie's two walks both
-  module _ {n a b : ℕ} {B : Bounds} {w : List ℕ} {old new : List Bool} (F : FoundBoth n B a b names 256 w walks old new) (l : n ≤ 129)
+  module _ {n a b : ℕ} {B : Bounds} {w : List ℕ} {old new : List Bool} (F : FoundBoth n B a b names ending w walks old new) (l : n ≤ 129)
       (same : length walks' ≡ length walks) where
-    pub way-there : InPlace n B a b names 256 walks' old (F .need-between)
+    pub way-there : InPlace n B a b names ending walks' old (F .need-between)
     way-there =
         ending-kept 256 (omega arith) l same
         (in-place-kept walks (omega arith) (F .back .as-long) (λ k p q. F .back .before k (omega arith)) (found-in (F .there)))
 
-    pub way-back : InPlace n B b a names 257 walks' (F .need-between) new
+    pub way-back : InPlace n B b a names (ending + 1) walks' (F .need-between) new
     way-back = ending-kept 257 (omega arith) l same (found-in (F .back))

@@ -11,7 +11,7 @@ use native.Mathlib.Decide.{ℕ-discrete}
 use Rattle.kind.specs.Kind.{weak, kindOf}
 use Rattle.closure.specs.Closed.{Closed, TiedAt}
 use Rattle.closure.specs.Table.{reach}
-use Rattle.cells.specs.Cells.{cell}
+use Rattle.cells.specs.Cells.{stride, cell}
 use Rattle.order.specs.First.{Set}
 use Rattle.sheet.specs.Sheet.{Sheet, WellFormed}
 use Rattle.meaning.proofs.Meaning.{same-input-below}
@@ -28,7 +28,7 @@ use Rattle.laid.proofs.Tables.{listed-more, tied-more, group-tied}
 use Rattle.drafted.specs.Drafted.{Drafted}
 
 -- what a table ties at is small
-pub tied-within : {N : ℕ} {d : ℕ → ℕ → ℕ} {i j : ℕ} → Closed N (reach N) d → (c : ℤ) → N ≤ 129 → i < N → j < N → TiedAt d i j c → TieWithin c
+pub tied-within : {N : ℕ} {d : ℕ → ℕ → ℕ} {i j : ℕ} → Closed N (reach N) d → (c : ℤ) → N ≤ stride → i < N → j < N → TiedAt d i j c → TieWithin c
 tied-within {i = i} {j} C (pos n) h i< j< t = (omega (arith, C .range j i j< i< .low, t .back .bound), omega arith)
 tied-within {i = i} {j} C (negsuc n) h i< j< t = (omega arith, omega (arith, C .range i j i< j< .low, t .to .bound))
 

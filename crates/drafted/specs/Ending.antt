@@ -12,12 +12,12 @@ use Rattle.order.specs.First.{Set, marked}
 use Rattle.sheet.specs.Limits.{maxTerms}
 use Rattle.sheet.specs.Sheet.{unequal, Sheet, countEntries, entryAt}
 use Rattle.reasons.specs.Step.{Step, byWalks, closingWalk, closingEntry}
-use Rattle.sketch.specs.Sketch.{boundNamed, place, walkAt, stepsOf}
+use Rattle.sketch.specs.Sketch.{boundNamed, place, ending, walkAt, stepsOf}
 
 -- bound e closes a walk under zero
 abbrev pub roundSteps : (froms names ties walks : List ℕ) (count e : ℕ) → List Step
 roundSteps froms names ties walks count e =
-    stepsOf names ties walks count ++ closingWalk (getD froms e 0) (boundNamed (getD names e 0) ∷ walkAt names walks 256) ∷ []
+    stepsOf names ties walks count ++ closingWalk (getD froms e 0) (boundNamed (getD names e 0) ∷ walkAt names walks ending) ∷ []
 
 -- a ≠ entry closes, on terms that the ties have in one group
 abbrev pub pathSteps : (names ties walks : List ℕ) (count x : ℕ) → List Step
@@ -26,7 +26,7 @@ pathSteps names ties walks count x = stepsOf names ties walks count ++ closingEn
 -- and on terms that they don't: these are tied by walks first
 abbrev pub tieSteps : (names ties walks : List ℕ) (count a b : ℕ) (c : ℤ) (x : ℕ) → List Step
 tieSteps names ties walks count a b c x =
-    stepsOf names ties walks count ++ byWalks a b c (walkAt names walks 256) (walkAt names walks 257) ∷ closingEntry x ∷ []
+    stepsOf names ties walks count ++ byWalks a b c (walkAt names walks ending) (walkAt names walks (ending + 1)) ∷ closingEntry x ∷ []
 
 -- nothing is marked more but numbers from count on
 pub record MarkedBehind (count : ℕ) (old new : List Bool) : Type 0 where

@@ -11,7 +11,7 @@ ghost use Rattle.sheet.specs.Decode.{Sized, sheetOf};
 ghost use Rattle.sheet.specs.Sheet.{WellFormed, countTerms, termAt};
 ghost use Rattle.settled.specs.Settled.{points};
 ghost use Rattle.layers.specs.Bounds.{bounds, Sound, Reachable};
-ghost use Rattle.sketch.specs.Sketch.{place};
+ghost use Rattle.sketch.specs.Sketch.{place, ending, walksLength};
 ghost use Rattle.forest.specs.Labels.{Labelled};
 ghost use Rattle.laid.specs.Laid.{Laid};
 ghost use Rattle.needed.specs.Needed.{Marks, Found, FoundBoth, FoundRound, Gathered};
@@ -33,9 +33,9 @@ pub fn round(
     walks: &mut [u16],
 )
     requires { ⌜ Sound n (bounds (e + 1) (now froms) (now tos) (now codes)) × Reachable n (bounds e (now froms) (now tos) (now codes)) (getD (now tos) e 0) (getD (now froms) e 0) ⌝ }
-    requires { ⌜ (n ≤ stride) × (length (now best) ≡ cells) × (258 * place ≤ length (now walks)) × (e < length (now names)) ⌝ }
+    requires { ⌜ (n ≤ stride) × (length (now best) ≡ cells) × (walksLength ≤ length (now walks)) × (e < length (now names)) ⌝ }
     requires { ⌜ ((b : ℕ) → b < e + 1 → 1024 ≤ getD (now names) b 0 → getD (now names) b 0 % 256 < length (now need)) ⌝ }
-    ensures found { λ _. ⌜ FoundRound n (bounds e (now (froms .entry)) (now (tos .entry)) (now (codes .entry))) (now (names .entry)) e 256 (now (walks .entry)) (now (walks .exit)) (now (need .entry)) (now (need .exit)) ⌝ }
+    ensures found { λ _. ⌜ FoundRound n (bounds e (now (froms .entry)) (now (tos .entry)) (now (codes .entry))) (now (names .entry)) e ending (now (walks .entry)) (now (walks .exit)) (now (need .entry)) (now (need .exit)) ⌝ }
     ensures kept { λ _. ⌜ Kept n (now (best .entry)) (now (best .exit)) ⌝ }
 {
     let from = froms[e] as usize;
@@ -113,7 +113,7 @@ pub fn gather(
 )
     requires { ⌜ Sized (now sheet) × WellFormed (sheetOf (now sheet)) × (length (now best) ≡ cells) ⌝ }
     requires { ⌜ Sound (points (sheetOf (now sheet))) (bounds listed (now froms) (now tos) (now codes)) × (listed ≤ length (now names)) ⌝ }
-    requires { ⌜ (length (now ties) ≡ stride) × (length (now labels) ≡ cells) × (count ≤ countTerms (sheetOf (now sheet))) × (count ≤ length (now need)) × (258 * place ≤ length (now walks)) ⌝ }
+    requires { ⌜ (length (now ties) ≡ stride) × (length (now labels) ≡ cells) × (count ≤ countTerms (sheetOf (now sheet))) × (count ≤ length (now need)) × (walksLength ≤ length (now walks)) ⌝ }
     requires { ⌜ Laid (sheetOf (now sheet)) (now froms) (now tos) (now codes) (now names) (now names) (now ties) (now labels) m listed count ⌝ }
     requires { ⌜ ((e : ℕ) → e < m → getD (now names) e 0 < 1024) ⌝ }
     ensures gathered { λ _. ⌜ Gathered (sheetOf (now (sheet .entry))) (now (froms .entry)) (now (tos .entry)) (now (codes .entry)) (now (names .entry)) (now (ties .entry)) count (now (walks .entry)) (now (walks .exit)) (now (need .entry)) (now (need .exit)) ⌝ }
@@ -161,7 +161,7 @@ fn support(
 )
     requires { ⌜ Sized (now sheet) × WellFormed (sheetOf (now sheet)) × (n ≡ points (sheetOf (now sheet))) × (tie ≡ getD (now ties) t 0) ⌝ }
     requires { ⌜ (length (now ties) ≡ stride) × (length (now labels) ≡ cells) × (t < countTerms (sheetOf (now sheet))) × (t ≤ length (now need)) ⌝ }
-    requires { ⌜ (length (now best) ≡ cells) × (258 * place ≤ length (now walks)) ⌝ }
+    requires { ⌜ (length (now best) ≡ cells) × (walksLength ≤ length (now walks)) ⌝ }
     requires { ⌜ Grounds (sheetOf (now sheet)) (now froms) (now tos) (now codes) (now names) (now ties) (now labels) t ⌝ }
     ensures supported { λ _. ⌜ Supported (sheetOf (now (sheet .entry))) (now (froms .entry)) (now (tos .entry)) (now (codes .entry)) (now (names .entry)) (now (ties .entry)) t (now (walks .entry)) (now (walks .exit)) (now (need .entry)) (now (need .exit)) ⌝ }
     ensures kept { λ _. ⌜ Kept n (now (best .entry)) (now (best .exit)) ⌝ }

@@ -8,7 +8,8 @@ ghost use Prim.Native.Nat.{ℕ, _+_, _*_, _^_, _≤_, _<_};
 ghost use lib.ListN.{length, getD};
 ghost use Rattle.big.specs.Big.{signedOf};
 ghost use Rattle.order.specs.First.{marked};
-ghost use Rattle.sketch.specs.Sketch.{place, boundNamed, walkAt, howOf, leftOf, rightOf, stepsOf, tieStep};
+ghost use Rattle.sheet.specs.Limits.{maxTerms};
+ghost use Rattle.sketch.specs.Sketch.{place, ending, boundNamed, walkAt, howOf, leftOf, rightOf, stepsOf, tieStep};
 ghost use Rattle.reasons.specs.Step.{byWalks, closingWalk};
 ghost use Rattle.reasons.specs.Pruned.{rank, pruned};
 ghost use Rattle.paper.specs.Record.{headLength, stepLength, headBytes, stepHead, stepBytes, stepsBytes, boundBytes, walkBytes};
@@ -86,7 +87,7 @@ pub fn ties(
     ranks: &[u8],
     walks: &[u16],
 ) -> usize
-    requires { ⌜ (from + count * stepLength ≤ length (now room)) × (count < 129) × (count ≤ length (now ties)) × (count ≤ length (now need)) × (count ≤ length (now ranks)) ⌝ }
+    requires { ⌜ (from + count * stepLength ≤ length (now room)) × (count ≤ maxTerms) × (count ≤ length (now ties)) × (count ≤ length (now need)) × (count ≤ length (now ranks)) ⌝ }
     requires { ⌜ Ranked (marked (now need)) (now ranks) count ⌝ }
     requires { ⌜ ((t : ℕ) → t < count → marked (now need) t ≡ true → 0 < howOf (getD (now ties) t 0) → Readable t (now names) (now walks) (2 * t) × Readable t (now names) (now walks) (2 * t + 1)) ⌝ }
     ensures steps { λ r. ⌜ Appended (now (room .entry)) (now (room .exit)) from r (stepsBytes (pruned (marked (now (need .entry))) (stepsOf (now (names .entry)) (now (ties .entry)) (now (walks .entry)) count))) ⌝ }
@@ -113,7 +114,7 @@ fn tie(
     ranks: &[u8],
     walks: &[u16],
 ) -> usize
-    requires { ⌜ (from + stepLength ≤ length (now room)) × (t < 129) × (t ≤ length (now ranks)) ⌝ }
+    requires { ⌜ (from + stepLength ≤ length (now room)) × (t ≤ maxTerms) × (t ≤ length (now ranks)) ⌝ }
     requires { ⌜ (0 < howOf tie → Readable t (now names) (now walks) (2 * t) × Readable t (now names) (now walks) (2 * t + 1)) ⌝ }
     ensures step { λ r. ⌜ Appended (now (room .entry)) (now (room .exit)) from r (stepBytes (tieStep (howOf tie) (leftOf tie) (rightOf tie) (rankedWalk (now (ranks .entry)) (walkAt (now (names .entry)) (now (walks .entry)) (2 * t))) (rankedWalk (now (ranks .entry)) (walkAt (now (names .entry)) (now (walks .entry)) (2 * t + 1))))) ⌝ }
     ensures short { λ r. ⌜ r ≤ from + stepLength ⌝ }
@@ -159,9 +160,9 @@ pub fn round(
     ranks: &[u8],
     walks: &[u16],
 ) -> usize
-    requires { ⌜ (from + stepLength ≤ length (now room)) × Readable (length (now ranks)) (now names) (now walks) 256 × (getD (now walks) (256 * place) 0 < 129) ⌝ }
+    requires { ⌜ (from + stepLength ≤ length (now room)) × Readable (length (now ranks)) (now names) (now walks) ending × (getD (now walks) (ending * place) 0 ≤ maxTerms) ⌝ }
     requires { ⌜ (e < length (now names)) × Nameable (length (now ranks)) (getD (now names) e 0) ⌝ }
-    ensures step { λ r. ⌜ Appended (now (room .entry)) (now (room .exit)) from r (stepBytes (closingWalk a (rankedBound (now (ranks .entry)) (boundNamed (getD (now (names .entry)) e 0)) ∷ rankedWalk (now (ranks .entry)) (walkAt (now (names .entry)) (now (walks .entry)) 256)))) ⌝ }
+    ensures step { λ r. ⌜ Appended (now (room .entry)) (now (room .exit)) from r (stepBytes (closingWalk a (rankedBound (now (ranks .entry)) (boundNamed (getD (now (names .entry)) e 0)) ∷ rankedWalk (now (ranks .entry)) (walkAt (now (names .entry)) (now (walks .entry)) ending)))) ⌝ }
     ensures short { λ r. ⌜ r ≤ from + stepLength ⌝ }
 {
     let behind = walks[ENDING * PLACE];

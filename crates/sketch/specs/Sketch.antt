@@ -25,6 +25,13 @@ named names (e ∷ es) = boundNamed (getD names e 0) ∷ named names es
 abbrev pub place : ℕ
 place = maxTerms + 2
 
+-- a tie's two walks stand at twice its number, those of the ending behind all ties'
+abbrev pub ending : ℕ
+ending = 2 * maxTerms
+
+abbrev pub walksLength : ℕ
+walksLength = (ending + 2) * place
+
 abbrev pub numbersAt : (walks : List ℕ) → ℕ → List ℕ
 numbersAt walks at = take (getD walks (at * place) 0) (drop (at * place + 1) walks)
 

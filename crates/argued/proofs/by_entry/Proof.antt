@@ -10,12 +10,12 @@ use native.Mathlib.Omega.{arith}
 use borrow.Author.Needs.{needs}
 use borrow.Author.Tests.{eqb-true, eqb-false}
 use denote.Ref.{now}
-use Rattle.cells.specs.Cells.{cell}
+use Rattle.cells.specs.Cells.{stride, cell}
 use Rattle.cells.proofs.Keeps.{kept-on}
 use Rattle.sheet.specs.Decode.{sheetOf}
 use Rattle.sheet.specs.Sheet.{countTerms}
 use Rattle.settled.specs.Settled.{points}
-use Rattle.sketch.specs.Sketch.{place}
+use Rattle.sketch.specs.Sketch.{walksLength}
 use Rattle.drafted.proofs.Named.{few-ties, few-more-ties}
 use Rattle.drafted.proofs.Ready.{none-marked}
 use Rattle.argued.proofs.Asked.{few, names-fit, points-few, gather-asks, writable, left<, right<, labelled, both-asks}
@@ -71,13 +71,13 @@ mark-requires c κs =
 abbrev marks : tie.After-mark → List Bool
 marks M = M .mark .last .1 .1 .0
 
-marks-long : (M : tie.After-mark) → length (marks M) ≡ 129
+marks-long : (M : tie.After-mark) → length (marks M) ≡ stride
 marks-long M = omega (arith, M .mark .kept .1 .1 .0)
 
 count< : (M : tie.After-mark) → start-of (read (joined M)) .args .count < length (marks M)
 count< M = omega (arith, few (start-of (read (joined M)) .pre .0), marks-long M)
 
-marked-long : (M : tie.After-mark) → length (set (marks M) (start-of (read (joined M)) .args .count) true) ≡ 129
+marked-long : (M : tie.After-mark) → length (set (marks M) (start-of (read (joined M)) .args .count) true) ≡ stride
 marked-long M = length-set (marks M) (start-of (read (joined M)) .args .count) true ∙ marks-long M
 
 array-write-need : tie.Need-array-write-need
@@ -107,7 +107,7 @@ returns c =
     let M = path-on G in
     let R = read (joined M) in
     let (Y, (x<, B)) = start-of R .pre in (
-      path-closes Y (R .entry-at .result) (R .entry-at .ensures) x< B (M .mark .ensures) (G .gather .ensures .0) (count< M) (none-marked 129) (W .write-path .ensures),
+      path-closes Y (R .entry-at .result) (R .entry-at .ensures) x< B (M .mark .ensures) (G .gather .ensures .0) (count< M) (none-marked stride) (W .write-path .ensures),
       G .gather .ensures .1,
     )
 
@@ -126,7 +126,7 @@ both-requires c κs =
       both-asks Y (R .entry-at .result) (R .entry-at .ensures) x< e B,
       (
         (points-few Y e, omega (arith, left-few R, e), omega (arith, right-few R, e), Y .all-cells, omega arith, Y .all-names),
-        λ b h g. names-fit Y 129 b (omega arith) h g,
+        λ b h g. names-fit Y stride b (omega arith) h g,
       ),
     )
 
@@ -146,10 +146,10 @@ module _ (F : tie.After-both) where
   abbrev found-marks : List Bool
   found-marks = F .both .last .1 .1 .1 .1 .1 .1 .1 .1 .1 .0
 
-  found-long : length found-marks ≡ 129
+  found-long : length found-marks ≡ stride
   found-long = omega (arith, F .both .kept .1 .1 .1 .1 .1 .1 .1 .1 .1 .0)
 
-  all-marked-long : length (set (set found-marks (start .args .count) true) (start .args .count + 1) true) ≡ 129
+  all-marked-long : length (set (set found-marks (start .args .count) true) (start .args .count + 1) true) ≡ stride
   all-marked-long =
       length-set (set found-marks (start .args .count) true) (start .args .count + 1) true ∙ length-set found-marks (start .args .count) true ∙ found-long
 
@@ -175,7 +175,7 @@ module _ (G : tie.After-gather2) where
   walks-as-long : length (G .gather2 .last .1 .1 .1 .1 .1 .1 .1 .1 .1 .1 .1 .1 .0) ≡ length (found G .both .last .1 .1 .1 .1 .1 .1 .1 .1 .1 .1 .0)
   walks-as-long = G .gather2 .kept .1 .1 .1 .1 .1 .1 .1 .1 .1 .1 .1 .1 .0
 
-  walks-full : 258 * place ≤ length (G .gather2 .last .1 .1 .1 .1 .1 .1 .1 .1 .1 .1 .1 .1 .0)
+  walks-full : walksLength ≤ length (G .gather2 .last .1 .1 .1 .1 .1 .1 .1 .1 .1 .1 .1 .1 .0)
   walks-full = omega (arith, walks-as-long, found G .both .kept .1 .1 .1 .1 .1 .1 .1 .1 .1 .1 .0)
 
 write-tie-requires : tie.Need-write-tie-requires
@@ -208,7 +208,7 @@ returns-2 c =
     let n : R .before .count-terms .result + 1 ≡ points (sheetOf (now (start-of R .args .sheet))) = omega arith in (
       tie-closes Y (R .entry-at .result) (R .entry-at .ensures) x< B e (F .both .ensures .0) (G .gather2 .ensures .0) (next< F) (walks-as-long G)
           (C .wrapping-sub-u64 .result) (omega (arith, C .wrapping-sub-u64 .ok)) (omega (arith, C .before .struct-known3 .given))
-          (C .wrapping-sub-u64 .ensures) (apart F) (none-marked 129) (W .write-tie .ensures),
+          (C .wrapping-sub-u64 .ensures) (apart F) (none-marked stride) (W .write-tie .ensures),
       kept-on (rw n at (F .both .ensures .1)) (G .gather2 .ensures .1),
     )
 

@@ -8,10 +8,11 @@ use lib.ListN.{length, set, length-set}
 use native.Mathlib.Omega.{arith}
 use borrow.Author.Needs.{needs}
 use denote.Ref.{now}
+use Rattle.cells.specs.Cells.{stride}
 use Rattle.cells.proofs.Keeps.{kept-on}
 use Rattle.sheet.specs.Decode.{sheetOf}
 use Rattle.settled.specs.Settled.{points}
-use Rattle.sketch.specs.Sketch.{place}
+use Rattle.sketch.specs.Sketch.{walksLength}
 use Rattle.drafted.proofs.Named.{name-below}
 use Rattle.drafted.proofs.Ready.{none-marked}
 use Rattle.argued.proofs.Asked.{nameable, few, names-fit, points-few, round-asks, gather-asks, writable}
@@ -33,7 +34,7 @@ round-requires c κs =
     let N = c .before .before .before in
     let (Y, l) = start-of N .pre in
     let e = N .count-terms .ensures .0 in
-    (round-asks Y e l, ((points-few Y e, Y .all-cells, omega arith, omega (arith, Y .all-names)), λ b h g. names-fit Y 129 b (omega arith) (omega arith) g))
+    (round-asks Y e l, ((points-few Y e, Y .all-cells, omega arith, omega (arith, Y .all-names)), λ b h g. names-fit Y stride b (omega arith) (omega arith) g))
 
 array-write-need : tie.Need-array-write-need
 array-write-need c = omega (arith, few (start-of (counted (c .before .before .before .before)) .pre .0))
@@ -42,10 +43,10 @@ array-write-need c = omega (arith, few (start-of (counted (c .before .before .be
 abbrev marks : tie.After-round → List Bool
 marks F = F .round .last .1 .1 .1 .1 .1 .1 .1 .0
 
-need-long : (F : tie.After-round) → length (marks F) ≡ 129
+need-long : (F : tie.After-round) → length (marks F) ≡ stride
 need-long F = omega (arith, F .round .kept .1 .1 .1 .1 .1 .1 .1 .0)
 
-marked-long : (F : tie.After-round) → length (set (marks F) (start-of (counted F) .args .count) true) ≡ 129
+marked-long : (F : tie.After-round) → length (set (marks F) (start-of (counted F) .args .count) true) ≡ stride
 marked-long F = length-set (marks F) (start-of (counted F) .args .count) true ∙ need-long F
 
 count< : (F : tie.After-round) → start-of (counted F) .args .count < length (marks F)
@@ -57,13 +58,13 @@ gather-requires c κs =
     let Y = start-of (counted F) .pre .0 in
     gather-asks Y (omega (arith, Y .all-cells, F .round .kept .1 .1 .1 .1 .1 .1 .0)) (omega (arith, few Y, marked-long F)) (omega arith)
 
-walks-long : (F : tie.After-round) → length (F .round .last .1 .1 .1 .1 .1 .1 .1 .1 .0) ≡ 258 * place
+walks-long : (F : tie.After-round) → length (F .round .last .1 .1 .1 .1 .1 .1 .1 .1 .0) ≡ walksLength
 walks-long F = omega (arith, F .round .kept .1 .1 .1 .1 .1 .1 .1 .1 .0)
 
 walks-as-long : (G : tie.After-gather) → length (G .gather .last .1 .1 .1 .1 .1 .1 .1 .1 .1 .1 .1 .1 .0) ≡ length (found G .round .last .1 .1 .1 .1 .1 .1 .1 .1 .0)
 walks-as-long G = G .gather .kept .1 .1 .1 .1 .1 .1 .1 .1 .1 .1 .1 .1 .0
 
-walks-full : (G : tie.After-gather) → 258 * place ≤ length (G .gather .last .1 .1 .1 .1 .1 .1 .1 .1 .1 .1 .1 .1 .0)
+walks-full : (G : tie.After-gather) → walksLength ≤ length (G .gather .last .1 .1 .1 .1 .1 .1 .1 .1 .1 .1 .1 .1 .0)
 walks-full G = omega (arith, walks-as-long G, walks-long (found G))
 
 need-full : (G : tie.After-gather) → start-of (counted (found G)) .args .count ≤ length (G .gather .last .1 .1 .1 .1 .1 .1 .1 .1 .1 .1 .1 .0)
@@ -95,7 +96,7 @@ returns c =
     let (Y, l) = start-of N .pre in
     let e = N .count-terms .ensures .0 in
     let n : N .count-terms .result + 1 ≡ points (sheetOf (now (start-of N .args .sheet))) = omega arith in (
-      round-closes Y e (F .round .ensures .0) (G .gather .ensures .0) l (count< F) (walks-as-long G) (none-marked 129) (W .write-round .ensures),
+      round-closes Y e (F .round .ensures .0) (G .gather .ensures .0) l (count< F) (walks-as-long G) (none-marked stride) (W .write-round .ensures),
       kept-on (rw n at (F .round .ensures .1)) (G .gather .ensures .1),
     )
 

@@ -2,6 +2,7 @@
 -- Assumes nothing.
 use native.Mathlib.Omega.{arith}
 use borrow.Author.Needs.{needs}
+use Rattle.sketch.specs.Sketch.{ending}
 use Rattle.paper.proofs.Heads.{head-length}
 use Rattle.paper.proofs.Walks.{bound-length}
 use Rattle.paper.proofs.Steps.{round-written}
@@ -39,7 +40,7 @@ returns c =
     let back = c .before .before in
     let over = back .before .before .before .before in
     let begun = over .before .before .before .before .before in
-    round-written _ _ _ _ _ 256 (start-of begun .pre .0 .1) (begun .step .ensures) (over .bound .ensures) (back .walk .ensures)
+    round-written _ _ _ _ _ ending (start-of begun .pre .0 .1) (begun .step .ensures) (over .bound .ensures) (back .walk .ensures)
 
 pub round-spec : {M : Type 1} → statement M
 round-spec =
