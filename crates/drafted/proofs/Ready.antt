@@ -15,9 +15,10 @@ use Rattle.closure.specs.Walk.{Among}
 use Rattle.order.specs.First.{Set, marked}
 use Rattle.sheet.specs.Sheet.{Term, unknown, number, shift, apply, apply2, Relation, equal, unequal, atMost, less, Sheet, countTerms, countEntries, termAt, entryAt}
 use Rattle.settled.specs.Settled.{zeroLevel, points}
-use Rattle.layers.specs.Bounds.{bounds, Sound, Listed}
+use Rattle.layers.specs.Bounds.{bounds, Sound}
 use Rattle.layers.proofs.Rests.{sound-fewer}
 use Rattle.ledger.specs.Ledger.{TermIn, BoundIn, Ledger}
+use Rattle.grown.proofs.Fronts.{among}
 use Rattle.grown.specs.Grown.{FunctionTies, Front}
 use Rattle.laid.specs.Laid.{Laid}
 use Rattle.drafted.specs.Drafted.{Drafted}
@@ -41,27 +42,14 @@ module _ {s : Sheet} {S : Set} {froms tos codes old froms' tos' codes' names tie
     (L : Ledger s S froms tos codes old m (countTerms s) (countEntries s)) (F : Front m froms tos codes froms' tos' codes')
     (T : FunctionTies s froms' tos' codes' m listed) (B : Sound (points s) (bounds listed froms' tos' codes'))
     (I : Laid s froms' tos' codes' old names ties labels m listed count) where
-  among : Among (Listed (bounds m froms tos codes)) (Listed (bounds m froms' tos' codes'))
-  among =
-      record {
-        more = λ e.
-            record {
-              number = e .number;
-              there = e .there;
-              starts = F .froms-kept _ (e .there) ∙ e .starts;
-              ends = F .tos-kept _ (e .there) ∙ e .ends;
-              gap = rw (F .codes-kept _ (e .there)) (e .gap);
-            };
-      }
-
   ledger : Ledger s S froms' tos' codes' names m (countTerms s) (countEntries s)
   ledger =
       record {
         few = L .few;
         sound = sound-fewer (omega (arith, T .listed-is)) B;
         named = λ b l. rw (I .names-kept b l, F .froms-kept b l, F .tos-kept b l, F .codes-kept b l) (L .named b l);
-        terms = λ i l. term-in among (zeroLevel s) i (termAt s i) (L .terms i l);
-        entries = λ e l h. bound-in among (entryAt s e .relation) (entryAt s e .a) (entryAt s e .b) (entryAt s e .c) (L .entries e l h);
+        terms = λ i l. term-in (among F) (zeroLevel s) i (termAt s i) (L .terms i l);
+        entries = λ e l h. bound-in (among F) (entryAt s e .relation) (entryAt s e .a) (entryAt s e .b) (entryAt s e .c) (L .entries e l h);
       }
 
   pub drafted-of : Drafted s S froms' tos' codes' names ties labels m listed count

@@ -52,7 +52,7 @@ module _ {m : ℕ} {froms tos codes froms' tos' codes' : List ℕ} (F : Front m 
         codes-kept = λ k l. sym (F .codes-kept k l);
       }
 
-  among : Among (Listed (bounds m froms tos codes)) (Listed (bounds m froms' tos' codes'))
+  pub among : Among (Listed (bounds m froms tos codes)) (Listed (bounds m froms' tos' codes'))
   among =
       record {
         more = λ e.

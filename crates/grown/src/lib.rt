@@ -2,8 +2,8 @@
 // zero or nothing is left to tie.
 // It rests on tables over lists of bounds (rests) and on the search for such a pair (matched), and promises what each tie came from.
 ghost use mathlib.Core.Path.{_≡_};
-ghost use Prim.Native.Nat.{ℕ, _+_, _*_, _≤_, _<_};
-ghost use lib.ListN.{length, getD};
+ghost use Prim.Native.Nat.{_+_, _*_, _≤_, _<_};
+ghost use lib.ListN.{length};
 ghost use Rattle.cells.specs.Cells.{cells, cell, Kept};
 ghost use Rattle.sheet.specs.Decode.{Sized, sheetOf};
 ghost use Rattle.sheet.specs.Limits.{maxTerms, maxEntries};

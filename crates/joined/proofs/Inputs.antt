@@ -66,7 +66,7 @@ pub firsts : {n : ℕ} {t u : Fields} → OneSymbol t u → ArgumentsBelow n (de
 firsts {n} {t} {u} O A = (first-below t (O .low) (O .high) (A .0), first-below u (omega arith) (omega arith) (A .1))
 
 -- not of kind 3, so of kind 4
-four : {t u : Fields} → OneSymbol t u → (t .kind ≡ 3 → ⊥) → (t .kind ≡ 4) × (u .kind ≡ 4)
+pub four : {t u : Fields} → OneSymbol t u → (t .kind ≡ 3 → ⊥) → (t .kind ≡ 4) × (u .kind ≡ 4)
 four {t} {u} O n = ⊎-elim (λ e. absurd (n (sym e))) (λ l. (omega arith, omega arith)) (eq-or-lt-of-le {n = 3} {m = t .kind} (O .low))
 
 pub seconds : {n : ℕ} {t u : Fields} → OneSymbol t u → (t .kind ≡ 3 → ⊥) → ArgumentsBelow n (decodeTerm t) × ArgumentsBelow n (decodeTerm u)

@@ -3,7 +3,7 @@
 use Prim.Native.Nat.{ℕ, _+_, _*_, _<_}
 use mathlib.Core.Path.{_≡_}
 use mathlib.Core.List.{List}
-use lib.ListN.{length, getD}
+use lib.ListN.{getD}
 use lib.IntN.{ℤ, negℤ}
 use Rattle.kind.specs.Code.{none, Within}
 use Rattle.kind.specs.Kind.{Kind, weak, kindOf}

@@ -1,6 +1,5 @@
 // Bounds jotted down in three lists: from where, to where, and the gap's code.
 // It rests on the gaps of a sheet's c (steps), and promises a bound, or both of a = b + c, at a place, and every other place as it was.
-ghost use mathlib.Core.Path.{_≡_};
 ghost use Prim.Native.Nat.{_+_, _<_};
 ghost use lib.ListN.{length};
 ghost use Rattle.kind.specs.Code.{none, Within};

@@ -3,8 +3,6 @@
 use Prim.Native.Nat.{ℕ, _<_}
 use mathlib.Core.Path.{_≡_, sym, _∙_}
 use mathlib.Core.List.{List}
-use mathlib.Core.Logic.{⊎-elim}
-use native.Mathlib.Nat.{eq-or-lt-of-le}
 use native.Mathlib.Omega.{arith}
 use Rattle.sheet.specs.declared.Fields.{Fields}
 use Rattle.sheet.specs.Decode.{decodeTerm}
@@ -14,20 +12,16 @@ use Rattle.sheet.proofs.Made.{is-one, is-two}
 use Rattle.meaning.specs.Meaning.{SameInput, one, two}
 use Rattle.settled.specs.Settled.{points}
 use Rattle.joined.specs.Joined.{JoinedAt}
-use Rattle.joined.proofs.Inputs.{OneSymbol, Input, says}
+use Rattle.joined.proofs.Inputs.{OneSymbol, Input, four, says}
 use Rattle.laid.specs.Longer.{Are, TiedUp, Alike, Arguments, ArgumentsTied}
 use Rattle.laid.proofs.Longer.{longer-as, longer-on}
-
--- not of kind 3, so of kind 4
-pub is-four : {f g : Fields} → OneSymbol f g → (f .kind ≡ 3 → ⊥) → f .kind ≡ 4
-is-four {f} O n = ⊎-elim (λ e. absurd (n (sym e))) (λ l. omega (arith, O .high)) (eq-or-lt-of-le {n = 3} {m = f .kind} (O .low))
 
 module _ {Alike : ℕ → ℕ → Type 0} {f g : Fields} (O : OneSymbol f g) where
   pub one-same : f .kind ≡ 3 → Alike (f .a) (g .a) → SameInput Alike (decodeTerm f) (decodeTerm g)
   one-same e p = rw (is-one f e, is-one g (sym (O .kind) ∙ e), O .symbol) (one p)
 
   pub two-same : (f .kind ≡ 3 → ⊥) → Alike (f .a) (g .a) → Alike (f .b) (g .b) → SameInput Alike (decodeTerm f) (decodeTerm g)
-  two-same n p q = let e = is-four O n in rw (is-two f e, is-two g (sym (O .kind) ∙ e), O .symbol) (two p q)
+  two-same n p q = let (e, e') = four O n in rw (is-two f e, is-two g e', O .symbol) (two p q)
 
 -- the records of terms i and j
 pub record Records (s : Sheet) (i j : ℕ) (f g : Fields) : Type 0 where
@@ -66,6 +60,6 @@ module _ {s : Sheet} {i j : ℕ} {f g : Fields} (R : Records s i j f g) where
         → TiedUp n e u (f .b) (g .b) ties' labels' ties'' labels'' r → ArgumentsTied s n i j e t ties labels ties'' labels'' r
     two-tied k l B =
         record {
-          longer = longer-on (longer-as (those first-of) (A .longer)) (longer-as (those (second-of (is-four O k))) (B .longer));
+          longer = longer-on (longer-as (those first-of) (A .longer)) (longer-as (those (second-of (four O k .0))) (B .longer));
           input = rw (R .left-is, R .right-is) (two-same O k (B .longer .stays _ _ (l .0) (l .1) (A .one-group)) (B .one-group));
         }

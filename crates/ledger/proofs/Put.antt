@@ -1,16 +1,13 @@
 -- A bound and both bounds of a = b + c, with their names, behind the lists.
 -- Assumes nothing.
-use Prim.Native.Nat.{ℕ, _+_, _*_, _-_, _<_}
+use Prim.Native.Nat.{ℕ, _+_, _-_, _<_}
 use mathlib.Core.Path.{_≡_, refl, _∙_}
 use mathlib.Core.List.{List, [], _∷_}
 use lib.ListN.{length, getD, set, length-set}
-use lib.IntN.{ℤ, subℕ}
+use lib.IntN.{ℤ}
 use lib.Seq.{getD-set-same, getD-set-other}
 use native.Mathlib.Omega.{arith}
-use Rattle.kind.specs.Code.{base}
-use Rattle.kind.specs.Kind.{Kind, strict, kindOf}
-use Rattle.kind.proofs.Kind.{kind-strict-of}
-use Rattle.steps.specs.Step.{Strict}
+use Rattle.kind.specs.Kind.{Kind}
 use Rattle.jotted.specs.Jotted.{One, Both}
 use Rattle.ledger.specs.Put.{Item, item, twoWays, At, end, next, Put}
 

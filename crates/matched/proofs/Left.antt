@@ -13,7 +13,7 @@ use Rattle.closure.specs.Closed.{Closed, TiedAt, tieOf}
 use Rattle.closure.specs.Table.{reach}
 use Rattle.sheet.specs.Sheet.{Sheet, countTerms}
 use Rattle.meaning.specs.Decides.{Decides}
-use Rattle.settled.specs.Settled.{points, Saturated}
+use Rattle.settled.specs.Settled.{points}
 use Rattle.ties.proofs.Tests.{tied-told}
 use Rattle.pairs.specs.Passing.{PairTied}
 use Rattle.pairs.proofs.Pairs.{saturated}

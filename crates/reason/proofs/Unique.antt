@@ -1,7 +1,7 @@
 -- The reply is one only but for which reason is written, and a sheet's reasons are of one list.
 -- Assumes nothing.
 use Prim.Native.Nat.{ℕ, _≤_, _<_}
-use mathlib.Core.Path.{_≡_, refl, sym, ap, _∙_}
+use mathlib.Core.Path.{_≡_, refl, sym, _∙_}
 use mathlib.Core.List.{List}
 use mathlib.Core.Logic.{_↔_}
 use lib.ListN.{length}
@@ -13,9 +13,9 @@ use Rattle.sheet.specs.Sheet.{Sheet}
 use Rattle.meaning.specs.Meaning.{Holds, Clashes}
 use Rattle.grounds.specs.Table.{Reply, fine, refused, refusal}
 use Rattle.grounds.proofs.Replies.{refused-ten}
-use Rattle.promise.specs.Answered.{over, SentBack}
+use Rattle.promise.specs.Answered.{SentBack}
 use Rattle.promise.proofs.Unique.{one-first, not-both}
-use Rattle.paper.specs.Record.{reasonRecord, reasonRoom}
+use Rattle.paper.specs.Record.{reasonRoom}
 use Rattle.reason.specs.Reasoned.{Told, holds, short, why, SaysWhy, Reasoned}
 use Rattle.reason.specs.OneReason.{OneReason}
 

@@ -2,8 +2,6 @@
 // It rests on the refusal table's check, the verdict, the first clashing list (blame) and the reason argued for it (argued), and joins them.
 // Its promise is one record (specs/Reasoned.antt).
 ghost use mathlib.Core.Path.{_≡_};
-ghost use Prim.Native.Nat.{_≤_};
-ghost use lib.ListN.{length};
 ghost use Rattle.sheet.specs.Decode.{Sized, sheetOf};
 ghost use Rattle.sheet.specs.Sheet.{WellFormed};
 ghost use Rattle.reason.specs.Reasoned.{numberOf, placeOf, Told, Reasoned};

@@ -1,7 +1,7 @@
 -- `argued::by_entry` meets its contract: the path between the entry's terms is marked, or walks between them are found; what that rests on
 -- is gathered, and all of it is written.
 -- Assumes nothing.
-use Prim.Native.Nat.{_+_, _*_, _≤_, _<_}
+use Prim.Native.Nat.{_+_, _≤_, _<_}
 use mathlib.Core.Path.{_≡_, sym, _∙_}
 use mathlib.Core.Bool.{Bool, true}
 use mathlib.Core.List.{List}

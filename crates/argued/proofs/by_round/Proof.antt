@@ -1,6 +1,6 @@
 -- `argued::by_round` meets its contract: the walk that bound e closes is found, what it rests on is gathered, and all of it is written.
 -- Assumes nothing.
-use Prim.Native.Nat.{_+_, _*_, _≤_, _<_}
+use Prim.Native.Nat.{_+_, _≤_, _<_}
 use mathlib.Core.Path.{_≡_, _∙_}
 use mathlib.Core.Bool.{Bool, true}
 use mathlib.Core.List.{List}

@@ -1,6 +1,5 @@
 -- `jotted::both` meets its contract.
 -- Assumes nothing.
-use mathlib.Core.Path.{subst}
 use borrow.Author.Needs.{needs}
 use native.Mathlib.Omega.{arith}
 use Rattle.jotted.proofs.Places.{weak-to, weak-back}
