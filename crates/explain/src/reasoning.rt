@@ -1,4 +1,7 @@
 // Steps in words: each with the bounds of its walks, one a line, and what these come to.
+ghost use Prim.Native.Nat.{_+_, _%_, _^_};
+ghost use mathlib.Core.Path.{_≡_};
+ghost use mathlib.Core.Bool.{_||_};
 use crate::records;
 use crate::records::byte;
 use crate::words::gap_of;
@@ -148,7 +151,9 @@ fn say_walk(
     say(b"\n");
 }
 
-fn behind(sum: Leg, leg: Leg) -> Leg {
+fn behind(sum: Leg, leg: Leg) -> Leg
+    ensures { λ r. ⌜ (r .from ≡ sum .from) × (r .to ≡ leg .to) × (r .c ≡ (sum .c + leg .c) % 2 ^ 64) × (r .strict ≡ sum .strict || leg .strict) ⌝ }
+{
     Leg {
         from: sum.from,
         to: leg.to,
@@ -199,6 +204,12 @@ fn leg_of(sheet: &[u8], record: &[u8], starts: &[u32; 256], kind: u8, n: u8) -> 
     if kind % 2 == 0 {
         return leg;
     }
+    turned(leg)
+}
+
+fn turned(leg: Leg) -> Leg
+    ensures { λ r. ⌜ (r .from ≡ leg .to) × (r .to ≡ leg .from) × ((r .c + leg .c) % 2 ^ 64 ≡ 0) × (r .strict ≡ leg .strict) ⌝ }
+{
     Leg {
         from: leg.to,
         to: leg.from,
@@ -207,7 +218,9 @@ fn leg_of(sheet: &[u8], record: &[u8], starts: &[u32; 256], kind: u8, n: u8) -> 
     }
 }
 
-fn entry_leg(entry: sheet::Entry) -> Leg {
+fn entry_leg(entry: sheet::Entry) -> Leg
+    ensures { λ r. ⌜ (r .from ≡ entry .a .0) × (r .to ≡ entry .b .0) × ((r .c + 32768) % 2 ^ 64 ≡ entry .c .0) ⌝ }
+{
     let relation = entry.relation;
     let strict = match relation {
         Relation::Less => true,

@@ -1,4 +1,6 @@
 // Terms and entries in words: as a text has them, an unknown by its term's number.
+ghost use Prim.Native.Nat.{_+_, _%_, _^_, min};
+ghost use mathlib.Core.Path.{_≡_};
 use crate::records;
 use libc::STDOUT_FILENO;
 use sheet::Biased;
@@ -41,7 +43,9 @@ fn parts(term: Term, sizes: &[u8; 256]) -> u8 {
     }
 }
 
-fn together(a: u8, b: u8) -> u8 {
+fn together(a: u8, b: u8) -> u8
+    ensures { λ r. ⌜ r ≡ min (a + b) 32 + 1 ⌝ }
+{
     let sum = a as u16 + b as u16;
     if sum < MOST as u16 {
         sum as u8 + 1
@@ -154,7 +158,9 @@ fn say_shift(c: Biased) {
 }
 
 // c as a record has it, two's complement of eight bytes.
-pub fn gap_of(c: Biased) -> u64 {
+pub fn gap_of(c: Biased) -> u64
+    ensures { λ r. ⌜ (r + 32768) % 2 ^ 64 ≡ c .0 ⌝ }
+{
     std::num::wrapping_sub_u64(c.0 as u64, 32768)
 }
 
