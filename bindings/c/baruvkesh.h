@@ -135,6 +135,32 @@ uint64_t baruvkesh_reason(const uint8_t *sheet, size_t sheet_len, uint8_t *room,
 static inline unsigned baruvkesh_reason_number(uint64_t answer) { return (unsigned)(answer >> 32); }
 static inline size_t baruvkesh_reason_place(uint64_t answer) { return (size_t)(answer & 0xFFFFFFFF); }
 
+/* Checks a reason from anybody, and answers number * 2^32 + place. The list is entry numbers, a byte each; the steps are bytes as they
+ * stand behind the list in a reason record, one step behind the other:
+ *
+ *   number  given exactly when                                               place
+ *   10-14   as with baruvkesh_judge                                          as there
+ *   27      the entry numbers don't rise, or one isn't below L               0
+ *   0       each step obeys document 01's rules for reasons and uses
+ *           entries of the list only, and the last one closes, with
+ *           exactly the list's entries behind it                             0
+ *   1       none of these                                                    number of the first wrong step
+ *
+ * 10 to 14 are checked first, then 27. A step whose bytes end before it does is wrong, and so is a closing step with a step behind it,
+ * whole or not; where no step closes, the one after the last is the wrong one. An empty list isn't 27, and never gets 0.
+ *
+ * 0 means that the entries of the list clash: no values meet every term and these entries. It doesn't vouch that the list is the first in
+ * order. Every reason that baruvkesh_reason writes, lent with its sheet and its list, gets 0.
+ *
+ * Nothing lent is written, so the three may overlap. Any bytes and any three lengths are allowed. Pointers and threads are as with
+ * baruvkesh_judge; the call asks for no memory but the stack's, under 512 KB. */
+uint64_t baruvkesh_survey(const uint8_t *sheet, size_t sheet_len, const uint8_t *list, size_t list_len, const uint8_t *steps,
+                          size_t steps_len);
+
+/* The two halves of what baruvkesh_survey answers. */
+static inline unsigned baruvkesh_survey_number(uint64_t answer) { return (unsigned)(answer >> 32); }
+static inline size_t baruvkesh_survey_place(uint64_t answer) { return (size_t)(answer & 0xFFFFFFFF); }
+
 #ifdef __cplusplus
 }
 #endif

@@ -14,8 +14,8 @@
 //! - `shortcut` names the document's shortcuts, which a panel can take on purpose;
 //! - `text` reads a sheet typed as text, and names the slips that a reader can make on purpose;
 //! - `reason` reads, checks and writes reasons, and names the lapses that a writer can have on
-//!   purpose;
-//! - `random` makes sheets and texts to try, for the programs that compare and time panels;
+//!   purpose, and the slips that a check can make;
+//! - `random` makes sheets, texts and reasons to try, for the programs that compare and time panels;
 //! - `comparing` is what the programs that compare have in common.
 
 #![forbid(unsafe_code)]

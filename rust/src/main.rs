@@ -1,13 +1,13 @@
 //! The program `second`: one sheet from standard input and a line for it, or many sheets in frames
-//! and an answer to each, or a reason. The same of texts.
+//! and an answer to each, or a reason. The same of texts, and of reasons from anybody.
 //!
 //! Rests on "When the panel sends a sheet back" for the line, and on the paper on byte forms for the
 //! frames of texts and of reasons.
 
-use second::reason::{Lapse, Writer};
+use second::reason::{Lapse, Reason, Step, Surveyor, Writer};
 use second::text::{Reader, Slip};
 use second::{reason, sheet, text, Panel, Shortcut};
-use std::io::{self, BufReader, BufWriter, Read, Write};
+use std::io::{self, BufReader, BufWriter, ErrorKind, Read, Write};
 use std::process::ExitCode;
 
 /// One more than the longest sheet, so that a sheet too long is seen to be.
@@ -17,6 +17,8 @@ const LONGEST_FRAME: usize = 4096;
 const LONGEST_TYPED: usize = 65_535;
 const LONGEST_TEXT: usize = 65_536;
 const LARGEST_ROOM: usize = 2048;
+/// The most steps of a frame.
+const MOST_STEPS: usize = 256;
 const FILL: u8 = 0xAA;
 
 fn main() -> ExitCode {
@@ -40,6 +42,12 @@ fn main() -> ExitCode {
             Some(lapse) => batch_reason(Writer::with(lapse)),
             None => return usage(),
         },
+        ["survey"] => one_reason(),
+        ["batch_survey"] => batch_survey(Surveyor::new()),
+        ["batch_survey", name] => match reason::Slip::from_name(name) {
+            Some(slip) => batch_survey(Surveyor::with(slip)),
+            None => return usage(),
+        },
         _ => return usage(),
     };
     match done {
@@ -55,10 +63,12 @@ fn usage() -> ExitCode {
     let shortcuts = Shortcut::ALL.map(Shortcut::name).join("|");
     let slips = Slip::ALL.map(|(_, name)| name).join("|");
     let lapses = Lapse::ALL.map(|(_, name)| name).join("|");
+    let checked = reason::Slip::ALL.map(|(_, name)| name).join("|");
     eprintln!(
         "second < SHEET\nsecond batch [{shortcuts}] < FRAMES > ANSWERS\n\
          second typed < TEXT\nsecond batch_text [{slips}] < FRAMES > ANSWERS\n\
-         second batch_reason [{lapses}] < FRAMES > ANSWERS"
+         second batch_reason [{lapses}] < FRAMES > ANSWERS\n\
+         second survey < SHEET-AND-RECORD\nsecond batch_survey [{checked}] < FRAMES > ANSWERS"
     );
     ExitCode::from(2)
 }
@@ -78,6 +88,28 @@ fn one_text() -> io::Result<()> {
         _ if text.len() > LONGEST_TYPED => format!("longer than {LONGEST_TYPED} bytes"),
         (0, length) => line(&room[..length as usize]),
         (number, place) => format!("refused {number} at {place}"),
+    };
+    writeln!(io::stdout(), "{line}")
+}
+
+/// A sheet, as long as it says itself, and the bytes behind it as a reason record. The sheet comes
+/// first: it is sent back whatever is behind it.
+fn one_reason() -> io::Result<()> {
+    let mut input = Vec::new();
+    io::stdin().lock().read_to_end(&mut input)?;
+    let stated = match input[..] {
+        [high, low, ..] => usize::from(u16::from_be_bytes([high, low])).max(2),
+        _ => 0,
+    };
+    let (sheet, record) = input.split_at(stated.min(input.len()));
+    let line = match (sheet::refusal(sheet, sheet::ROOM), Reason::by_form(record)) {
+        (None, Err(_)) => String::from("no reason record"),
+        (Some((number, place)), _) => format!("refused {number} at {place}"),
+        (None, Ok(Reason { list, steps })) => match Surveyor::new().answer(sheet, &list, &steps) {
+            (0, _) => String::from("yes"),
+            (1, place) => format!("wrong at {place}"),
+            (number, place) => format!("refused {number} at {place}"),
+        },
     };
     writeln!(io::stdout(), "{line}")
 }
@@ -174,6 +206,52 @@ fn batch_reason(mut writer: Writer) -> io::Result<()> {
     answers.flush()
 }
 
+/// A frame is a count in two bytes and so many bytes of a sheet, a count in one byte and so many
+/// entry numbers, a count in two bytes and so many steps; the answer to it is the number and the
+/// place. It ends as a batch of sheets does.
+fn batch_survey(surveyor: Surveyor) -> io::Result<()> {
+    let mut frames = BufReader::new(io::stdin().lock());
+    let mut answers = BufWriter::new(io::stdout().lock());
+    loop {
+        let (sheet, list, steps) = match reason_frame(&mut frames, &mut answers) {
+            Err(error) if error.kind() == ErrorKind::UnexpectedEof => return answers.flush(),
+            frame => frame?,
+        };
+        let (number, place) = surveyor.answer(&sheet, &list, &steps);
+        answers.write_all(&[number])?;
+        answers.write_all(&place.to_be_bytes())?;
+    }
+}
+
+/// A sheet, a list and steps. A count too large is taken for the end of the input.
+fn reason_frame(
+    frames: &mut BufReader<impl Read>,
+    answers: &mut impl Write,
+) -> io::Result<(Vec<u8>, Vec<u8>, Vec<Step>)> {
+    let end = || io::Error::from(ErrorKind::UnexpectedEof);
+    let mut part = |length: usize| {
+        let mut part = vec![0; length];
+        let whole = length <= LONGEST_FRAME && fill(&mut part, frames, answers)?;
+        whole.then_some(part).ok_or_else(end)
+    };
+    let number = |bytes: Vec<u8>| bytes.iter().fold(0, |n, &byte| n << 8 | usize::from(byte));
+    let count = number(part(2)?);
+    let sheet = part(count)?;
+    let count = number(part(1)?);
+    let list = part(count)?;
+    let count = number(part(2)?);
+    if count > MOST_STEPS {
+        return Err(end());
+    }
+    let mut steps = Vec::new();
+    for _ in 0..count {
+        let head = part(Step::HEAD)?;
+        let head = head[..].try_into().expect("a part has its length");
+        steps.push(Step::from(head, &part(Step::behind(head))?));
+    }
+    Ok((sheet, list, steps))
+}
+
 /// Reads a part of a frame; false if the input ends first. Before it may have to wait, answers go
 /// out: the other side may be waiting for those.
 fn fill(
@@ -185,7 +263,7 @@ fn fill(
         answers.flush()?;
     }
     match frames.read_exact(part) {
-        Err(error) if error.kind() == io::ErrorKind::UnexpectedEof => Ok(false),
+        Err(error) if error.kind() == ErrorKind::UnexpectedEof => Ok(false),
         done => done.map(|()| true),
     }
 }

@@ -1,26 +1,29 @@
-//! Feeds the proved panel and the proved reader of texts random, damaged and good input for a number
-//! of seconds, half of them each.
+//! Feeds the proved panel, the proved reader of texts, the proved writer of reasons and the proved
+//! check of them random, damaged and good input for a number of seconds, a quarter of them each.
 //!
 //!     fuzz SECONDS [SEED [FILE]]
-//!     fuzz show NUMBER SEED          one input: a sheet in hex and in words, a text by its lines
+//!     fuzz show NUMBER SEED          one input: sheets and steps in hex and in words, a text by its lines
 //!
-//! The sheet or text lies in memory that can't be written, and both it and the room end where a page
-//! that can't be touched begins. So a read or write past the end of either, and any write to the
-//! input, stops the program; the file then has the number of the input, in eight bytes. Bytes
-//! before the room (back to its page's start) and past what is written are compared afterwards. A
-//! read before the input or the room isn't noticed.
+//! All input lies in memory that can't be written, and each part of it and the room end where a page
+//! that can't be touched begins. So a read or write past the end of one, and any write to the input,
+//! stops the program; the file then has the number of the input, in eight bytes. Bytes before the
+//! room (back to its page's start) and past what is written are compared afterwards. A read before
+//! an input or the room isn't noticed.
 //!
 //! Number, place and list are held to the independent panel's, and values to what they mean; of a
-//! text number, place and every byte of the room to the independent reader's. A call that isn't back
-//! within a minute is reported with its input. It fails too if it tried nothing, or if in five
-//! seconds or more no sheet held, none clashed or none was refused, or no text was read or refused
-//! by one of its numbers.
+//! text number, place and every byte of the room to the independent reader's; a reason to the
+//! independent check, and the proved check to the same. A call that isn't back within a minute is
+//! reported with its input. It fails too if it tried nothing, or if in twenty seconds or more there
+//! was no answer of one of the kinds that are counted.
 
-use second::random::families::FAMILIES;
+use bench::told;
+use second::random::families::{Family, FAMILIES, FOR_REASONS};
 use second::random::sheet::state_length;
+use second::random::surveys::SURVEYS;
 use second::random::texts::{LONGEST, TEXTS};
 use second::random::words::{hex, words};
 use second::random::Random;
+use second::reason::{needless, Reason, Step, ROOM as REASON_ROOM};
 use second::sheet::{MOST, ROOM};
 use second::text::{Reader, ROOM as SHEET_ROOM};
 use second::{meaning, Panel};
@@ -37,7 +40,7 @@ const PAGE: usize = 4096;
 const UNTOUCHED: u8 = 0xAA;
 const PATIENCE: Duration = Duration::from_secs(60);
 /// From how many seconds on there must be answers of each kind.
-const LONG: u64 = 5;
+const LONG: u64 = 20;
 
 fn main() {
     let args: Vec<String> = env::args().skip(1).collect();
@@ -57,30 +60,37 @@ fn main() {
     let start = Instant::now();
     let mut tried = Tried::new();
     let mut counts = Counts::default();
-    // Even numbers are sheets and odd ones texts. The side with less time so far is next.
-    let (mut next, mut spent) = ([0, 1], [Duration::ZERO; 2]);
+    // The kinds of input take turns with their numbers. The one with the least time so far is next.
+    let mut next: Vec<u64> = (0..KINDS).collect();
+    let mut spent = vec![Duration::ZERO; next.len()];
     while start.elapsed().as_secs() < seconds {
-        let side = usize::from(spent[1] < spent[0]);
-        let (number, began) = (next[side], Instant::now());
+        let kind = (0..spent.len()).min_by_key(|&kind| spent[kind]).unwrap();
+        let (number, began) = (next[kind], Instant::now());
         asked.store(number, Relaxed);
         if let Err(fault) = tried.try_one(&input(seed, number), &mut counts) {
             show(seed, number, &format!(": {fault}"));
             exit(1);
         }
-        next[side] += 2;
-        spent[side] += began.elapsed();
+        next[kind] += KINDS;
+        spent[kind] += began.elapsed();
     }
     // A run that shows little or nothing, whatever the panel.
     let few = |counts: &[u64]| {
         counts.iter().all(|&count| count == 0) || seconds >= LONG && counts.contains(&0)
     };
-    if few(&counts.sheets) || few(&counts.texts) {
+    let Counts {
+        sheets,
+        texts,
+        reasons,
+        surveys,
+    } = &counts;
+    if few(sheets) || few(texts) || few(reasons) || few(surveys) {
         eprintln!("fuzz: too little was tried: {}", counts.words());
         exit(1);
     }
     println!(
-        "fuzz: {} s (seed {seed}): {}; none changes the sheet or text, writes past the record or \
-         sheet, is answered differently by the independent panel or reader, or fails to come back",
+        "fuzz: {} s (seed {seed}): {}; none changes what is lent, writes past the record or sheet, \
+         is answered differently by the independent programs, or fails to come back",
         start.elapsed().as_secs(),
         counts.words()
     );
@@ -92,6 +102,11 @@ struct Counts {
     sheets: [u64; 3],
     /// That are read, and that are refused by 20 to 24.
     texts: [u64; 6],
+    /// That are written, that have too little room, that there are none of since the sheet holds, and
+    /// whose sheets are refused.
+    reasons: [u64; 4],
+    /// That get a yes, that have a wrong step, whose lists are none, and whose sheets are refused.
+    surveys: [u64; 4],
 }
 
 impl Counts {
@@ -102,12 +117,19 @@ impl Counts {
         let by_number: Vec<String> = by_number
             .map(|(number, count)| format!("{count} by {number}"))
             .collect();
+        let [written, small, hold, unread] = self.reasons;
+        let [yes, wrong, no_list, sent_back] = self.surveys;
         format!(
             "{} sheets, of which {holds} hold, {clashes} clash and {refused} are refused; {} texts, \
-             of which {read} are read and refused {}",
+             of which {read} are read and refused {}; {} sheets for a reason, of which {written} get \
+             one, {small} have too little room, {hold} hold and {unread} are refused; {} reasons, of \
+             which {yes} get a yes, {wrong} have a wrong step, {no_list} a list that is none and \
+             {sent_back} a refused sheet",
             self.sheets.iter().sum::<u64>(),
             self.texts.iter().sum::<u64>(),
-            by_number.join(", ")
+            by_number.join(", "),
+            self.reasons.iter().sum::<u64>(),
+            self.surveys.iter().sum::<u64>(),
         )
     }
 }
@@ -144,20 +166,46 @@ fn kept(file: Option<&str>) -> &'static AtomicU64 {
 enum Input {
     Sheet(Vec<u8>, usize),
     Text(Vec<u8>, usize),
+    /// A sheet, for a reason.
+    Reason(Vec<u8>, usize),
+    Survey(Survey),
+}
+
+/// How many kinds of input there are.
+const KINDS: u64 = 4;
+
+/// A reason to be checked, without a room.
+struct Survey {
+    sheet: Vec<u8>,
+    list: Vec<u8>,
+    steps: Vec<u8>,
 }
 
 /// The input of a number, always the same.
 fn input(seed: u64, number: u64) -> Input {
-    match number % 2 {
-        0 => sheet(seed, number / 2),
-        _ => text(seed, number / 2),
+    let (kind, number) = (number % KINDS, number / KINDS);
+    match kind {
+        0 => {
+            let random = &mut Random::of(seed, "fuzz", number);
+            Input::Sheet(sheet(seed, number, random), some_room(ROOM, random))
+        }
+        1 => text(seed, number),
+        2 => {
+            let random = &mut Random::of(seed, "fuzz reasons", number);
+            Input::Reason(sheet(seed, number, random), some_room(REASON_ROOM, random))
+        }
+        _ => Input::Survey(survey(seed, number)),
     }
 }
 
-fn sheet(seed: u64, number: u64) -> Input {
-    let random = &mut Random::of(seed, "fuzz", number);
-    let family = &FAMILIES[random.below(FAMILIES.len())];
-    let mut sheet = family.sheet(seed, number);
+fn family(random: &mut Random) -> &'static Family {
+    let own = random.below(FAMILIES.len() + FOR_REASONS.len());
+    let family = FAMILIES.iter().chain(&FOR_REASONS).nth(own);
+    family.expect("a family of this number")
+}
+
+fn sheet(seed: u64, number: u64, random: &mut Random) -> Vec<u8> {
+    let mut sheet = family(random).sheet(seed, number);
     match random.below(4) {
         0 => {}
         1 => damage(&mut sheet, random),
@@ -171,23 +219,49 @@ fn sheet(seed: u64, number: u64) -> Input {
         _ => {
             // A good head, and records of anything: most are refused late, and some are judged.
             let (t, l) = (1 + random.below(MOST), random.below(MOST + 1));
-            sheet = (0..6 * (1 + t + l))
-                .map(|_| random.below(256) as u8)
-                .collect();
+            sheet = any_bytes(6 * (1 + t + l), random);
             sheet[2..6].copy_from_slice(&[1, t as u8, l as u8, 0]);
             state_length(&mut sheet);
             tame(&mut sheet, t, random);
         }
     }
-    let room = some_room(ROOM, random);
-    Input::Sheet(sheet, room)
+    sheet
 }
+
+/// A reason of the tester's, right or not quite, or a part of it damaged.
+fn survey(seed: u64, number: u64) -> Survey {
+    let random = &mut Random::of(seed, "fuzz surveys", number);
+    let case = SURVEYS[random.below(SURVEYS.len())].case(seed, number);
+    let (mut sheet, mut list) = (case.sheet, case.list);
+    let mut steps: Vec<u8> = case.steps.iter().flat_map(Step::bytes).collect();
+    match random.below(8) {
+        0..=2 => {}
+        3 => damage(&mut sheet, random),
+        4 => damage(&mut list, random),
+        5 => damage(&mut steps, random),
+        6 => steps = any_bytes(random.below(200), random),
+        _ => {
+            // cut short, or far more steps than a reason can have
+            steps = steps.repeat(random.pick(&[1, 2, 300]));
+            steps.truncate(random.below(steps.len() + 1));
+        }
+    }
+    steps.truncate(INPUT);
+    Survey { sheet, list, steps }
+}
+
+fn any_bytes(count: usize, random: &mut Random) -> Vec<u8> {
+    (0..count).map(|_| random.below(256) as u8).collect()
+}
+
+/// More than a room has over what is needed.
+const SPARE: usize = 600;
 
 /// Mostly what is needed, and else less or more.
 fn some_room(needed: usize, random: &mut Random) -> usize {
     match random.below(8) {
         0 => random.below(needed),
-        1 => needed + random.below(600),
+        1 => needed + random.below(SPARE),
         _ => needed,
     }
 }
@@ -222,12 +296,12 @@ fn mistype(text: &mut [u8], random: &mut Random) {
 }
 
 /// Other bytes in a few places.
-fn damage(sheet: &mut [u8], random: &mut Random) {
+fn damage(bytes: &mut [u8], random: &mut Random) {
     for _ in 0..1 + random.below(4) {
-        if !sheet.is_empty() {
-            let at = random.below(sheet.len());
-            sheet[at] = match random.below(3) {
-                0 => sheet[at] ^ 1 << random.below(8),
+        if !bytes.is_empty() {
+            let at = random.below(bytes.len());
+            bytes[at] = match random.below(3) {
+                0 => bytes[at] ^ 1 << random.below(8),
                 1 => random.below(5) as u8,
                 _ => random.below(256) as u8,
             };
@@ -271,53 +345,74 @@ fn tame(sheet: &mut [u8], t: usize, random: &mut Random) {
     }
 }
 
-/// The memory that calls are lent.
-struct Memory {
-    /// The same pages seen twice: written here, and lent from where they can only be read.
+/// Memory that an input is lent from. The same pages are seen twice: written here, and lent from
+/// where they can only be read.
+struct Lent {
     written: *mut u8,
     lent: *const u8,
-    room: *mut u8,
 }
 
-/// Enough pages for every sheet and text.
+/// Enough pages for every sheet, list, text and row of steps.
 const INPUT: usize = LONGEST;
 
-impl Memory {
-    fn new() -> Memory {
+impl Lent {
+    fn new() -> Lent {
         // SAFETY: maps fresh pages, and keeps no other reference to them.
         unsafe {
             let file = memfd_create(b"input\0".as_ptr().cast(), 0);
             assert!(file >= 0 && ftruncate(file, INPUT as c_long) == 0);
-            Memory {
+            Lent {
                 written: map(ptr::null_mut(), INPUT, READ | WRITE, SHARED, file),
                 lent: before_a_wall(INPUT, |at| map(at, INPUT, READ, SHARED | FIXED, file)),
-                room: before_a_wall(PAGE, |at| {
-                    map(at, PAGE, READ | WRITE, PRIVATE | FIXED | NO_FILE, -1)
-                }),
             }
         }
     }
 
-    /// The input as it is lent, and the room's page, untouched.
-    fn lend(&mut self, input: &[u8]) -> (&[u8], &mut [u8]) {
+    /// The input as it is lent.
+    fn lend(&mut self, input: &[u8]) -> &[u8] {
         let at = INPUT - input.len();
-        // SAFETY: both parts lie within their pages, the room can be written, and nothing else
-        // refers to either while they are used.
-        let (lent, page) = unsafe {
+        // SAFETY: the input lies within its pages, and nothing else refers to them while it is used.
+        unsafe {
             slice::from_raw_parts_mut(self.written.add(at), input.len()).copy_from_slice(input);
-            (
-                slice::from_raw_parts(self.lent.add(at), input.len()),
-                slice::from_raw_parts_mut(self.room, PAGE),
-            )
-        };
-        page.fill(UNTOUCHED);
-        (lent, page)
+            slice::from_raw_parts(self.lent.add(at), input.len())
+        }
     }
 }
 
-/// The proved panel and reader in that memory, beside the independent ones.
+/// Memory that rooms are lent from.
+struct Room(*mut u8);
+
+/// Enough pages for every room.
+const ROOMS: usize = (REASON_ROOM + SPARE + PAGE) / PAGE * PAGE;
+
+impl Room {
+    fn new() -> Room {
+        // SAFETY: maps fresh pages, and keeps no other reference to them.
+        unsafe {
+            Room(before_a_wall(ROOMS, |at| {
+                map(at, ROOMS, READ | WRITE, PRIVATE | FIXED | NO_FILE, -1)
+            }))
+        }
+    }
+
+    /// A room of so many bytes, and what is before it in its first page, all untouched.
+    fn lend(&mut self, room: usize) -> (&mut [u8], &mut [u8]) {
+        let at = (ROOMS - room) / PAGE * PAGE;
+        // SAFETY: the part lies within its pages, which can be written, and nothing else refers to
+        // them while it is used.
+        let pages = unsafe { slice::from_raw_parts_mut(self.0.add(at), ROOMS - at) };
+        pages.fill(UNTOUCHED);
+        let (before, room) = pages.split_at_mut(pages.len() - room);
+        (room, before)
+    }
+}
+
+/// The proved programs in that memory, beside the independent ones.
 struct Tried {
-    memory: Memory,
+    input: Lent,
+    list: Lent,
+    steps: Lent,
+    room: Room,
     second: Panel,
     reader: Reader,
 }
@@ -325,7 +420,10 @@ struct Tried {
 impl Tried {
     fn new() -> Tried {
         Tried {
-            memory: Memory::new(),
+            input: Lent::new(),
+            list: Lent::new(),
+            steps: Lent::new(),
+            room: Room::new(),
             second: Panel::new(),
             reader: Reader::new(),
         }
@@ -333,77 +431,74 @@ impl Tried {
 
     /// Counts the answer, or says what is wrong with it.
     fn try_one(&mut self, input: &Input, counts: &mut Counts) -> Result<(), String> {
-        match input {
+        let counted = match input {
             Input::Sheet(sheet, room) => {
                 let number = self.judge(sheet, *room)?;
-                counts.sheets[number.min(2)] += 1;
+                &mut counts.sheets[usize::from(number.min(2))]
             }
             Input::Text(text, room) => {
                 let number = self.read(text, *room)?;
-                counts.texts[number.saturating_sub(19)] += 1;
+                &mut counts.texts[usize::from(number.saturating_sub(19))]
             }
-        }
+            Input::Reason(sheet, room) => match self.reason(sheet, *room)? {
+                1 => &mut counts.reasons[0],
+                25 => &mut counts.reasons[1],
+                26 => &mut counts.reasons[2],
+                _ => &mut counts.reasons[3],
+            },
+            Input::Survey(asked) => match self.survey(asked)? {
+                0 => &mut counts.surveys[0],
+                1 => &mut counts.surveys[1],
+                27 => &mut counts.surveys[2],
+                _ => &mut counts.surveys[3],
+            },
+        };
+        *counted += 1;
         Ok(())
     }
 
     /// The answer's number, or what is wrong with the answer.
-    fn read(&mut self, text: &[u8], room: usize) -> Result<usize, String> {
-        let (lent, page) = self.memory.lend(text);
+    fn read(&mut self, text: &[u8], room: usize) -> Result<u8, String> {
         let mut expected = vec![UNTOUCHED; room];
         let right = self.reader.read(text, &mut expected);
-        let (before, room) = page.split_at_mut(PAGE - room);
+        let lent = self.input.lend(text);
+        let (room, before) = self.room.lend(room);
         let got = bench::transcribe(lent, room);
-        if got != right {
-            return Err(format!(
-                "answered {got:?}, where the independent reader has {right:?}"
-            ));
-        }
-        if lent != text {
-            return Err("the text was changed".to_string());
-        }
-        if before.iter().any(|&byte| byte != UNTOUCHED) {
-            return Err("bytes before the room were changed".to_string());
-        }
+        same(got, right)?;
+        unchanged(text, lent)?;
+        untouched("before the room", before)?;
         match room.iter().zip(&expected).position(|(a, b)| a != b) {
             Some(at) => Err(format!(
                 "byte {at} of the room is {}, where the independent reader has {}",
                 room[at], expected[at]
             )),
-            None => Ok(usize::from(got.0)),
+            None => Ok(got.0),
         }
     }
 
     /// The answer's number, or what is wrong with the answer.
-    fn judge(&mut self, sheet: &[u8], room: usize) -> Result<usize, String> {
-        let (lent, page) = self.memory.lend(sheet);
+    fn judge(&mut self, sheet: &[u8], room: usize) -> Result<u8, String> {
         let mut expected = vec![UNTOUCHED; room];
-        let right = self.second.judge(sheet, &mut expected);
-        let (before, room) = page.split_at_mut(PAGE - room);
+        let (number, place) = self.second.judge(sheet, &mut expected);
+        let lent = self.input.lend(sheet);
+        let (room, before) = self.room.lend(room);
         let answer = baruvkesh::judge(lent, room);
-        let got = (answer.number(), answer.place() as u16);
-        if got != right {
-            return Err(format!(
-                "answered {got:?}, where the independent panel has {right:?}"
-            ));
-        }
-        if lent != sheet {
-            return Err("the sheet was changed".to_string());
-        }
-        if before.iter().any(|&byte| byte != UNTOUCHED) {
-            return Err("bytes before the room were changed".to_string());
-        }
-        let end = if got.0 < 2 { usize::from(got.1) } else { 0 };
-        if room[end..].iter().any(|&byte| byte != UNTOUCHED) {
-            return Err("bytes past the record were changed".to_string());
-        }
-        if got.0 == 1 && room[..end] != expected[..end] {
+        same(
+            (answer.number(), answer.place() as u32),
+            (number, place.into()),
+        )?;
+        unchanged(sheet, lent)?;
+        untouched("before the room", before)?;
+        let end = if number < 2 { usize::from(place) } else { 0 };
+        untouched("past the record", &room[end..])?;
+        if number == 1 && room[..end] != expected[..end] {
             return Err(format!(
                 "listed {:?}, and not {:?}",
                 &room[8..end],
                 &expected[8..end]
             ));
         }
-        if got.0 == 0 {
+        if number == 0 {
             let d = i64::from(u16::from_be_bytes([room[4], room[5]]));
             let eight = |bytes: &[u8]| i64::from_be_bytes(bytes.try_into().unwrap());
             let n: Vec<i64> = room[8..end].chunks(8).map(eight).collect();
@@ -414,23 +509,116 @@ impl Tried {
                 return Err(rule);
             }
         }
-        Ok(usize::from(got.0))
+        Ok(number)
+    }
+
+    /// The answer's number, or what is wrong with the answer.
+    fn reason(&mut self, sheet: &[u8], room: usize) -> Result<u8, String> {
+        let mut judged = [0; ROOM];
+        let (verdict, place) = self.second.judge(sheet, &mut judged);
+        let lent = self.input.lend(sheet);
+        let (room, before) = self.room.lend(room);
+        let enough = room.len() >= REASON_ROOM;
+        let answer = baruvkesh::reason(lent, room);
+        let (number, length) = (answer.number(), answer.place());
+        let right = match verdict {
+            0 => (26, 0),
+            1 if !enough => (25, 0),
+            // which reason is written is free, and so is its length
+            1 => (1, length as u32),
+            _ => (verdict, place.into()),
+        };
+        same((number, length as u32), right)?;
+        unchanged(sheet, lent)?;
+        untouched("before the room", before)?;
+        let end = if number == 1 { length } else { 0 };
+        untouched("past the record", &room[end..])?;
+        if number == 1 {
+            let Reason { list, steps } = Reason::from(&room[..end])?;
+            if list != judged[8..usize::from(place)] {
+                return Err(format!("a reason for {list:?}, which isn't the first list"));
+            }
+            let spare = needless(sheet, &list, &steps).map_err(|wrong| wrong.to_string())?;
+            if !spare.is_empty() {
+                return Err(format!("the last step doesn't rest on {spare:?}"));
+            }
+            // our own check says yes to our own reasons
+            same(
+                bench::survey(sheet, &list, &room[10 + list.len()..end]),
+                (0, 0),
+            )?;
+        }
+        Ok(number)
+    }
+
+    /// The answer's number, or what is wrong with the answer.
+    fn survey(&mut self, asked: &Survey) -> Result<u8, String> {
+        let right = told::answer(&asked.sheet, &asked.list, &asked.steps);
+        let sheet = self.input.lend(&asked.sheet);
+        let list = self.list.lend(&asked.list);
+        let steps = self.steps.lend(&asked.steps);
+        let got = bench::survey(sheet, list, steps);
+        same(got, right)?;
+        unchanged(&asked.sheet, sheet)?;
+        unchanged(&asked.list, list)?;
+        unchanged(&asked.steps, steps)?;
+        Ok(got.0)
+    }
+}
+
+fn same(got: (u8, u32), right: (u8, u32)) -> Result<(), String> {
+    match got == right {
+        true => Ok(()),
+        false => Err(format!(
+            "answered {got:?}, where the independent program has {right:?}"
+        )),
+    }
+}
+
+fn unchanged(input: &[u8], lent: &[u8]) -> Result<(), String> {
+    match lent == input {
+        true => Ok(()),
+        false => Err("what was lent was changed".to_string()),
+    }
+}
+
+fn untouched(place: &str, bytes: &[u8]) -> Result<(), String> {
+    match bytes.iter().all(|&byte| byte == UNTOUCHED) {
+        true => Ok(()),
+        false => Err(format!("bytes {place} were changed")),
     }
 }
 
 fn show(seed: u64, number: u64, fault: &str) {
-    let (what, room, lines) = match input(seed, number) {
-        Input::Sheet(sheet, room) => ("a sheet", room, [hex(&sheet), words(&sheet)].concat()),
+    let in_room = |what: &str, room: usize| format!("{what} with a room of {room} bytes");
+    let (what, lines) = match input(seed, number) {
+        Input::Sheet(sheet, room) => (in_room("a sheet", room), sheet_lines(&sheet)),
         Input::Text(text, room) => {
             let lines = text.split_inclusive(|&byte| byte == b'\n');
             let lines = lines.map(|line| line.escape_ascii().to_string());
-            ("a text", room, lines.collect())
+            (in_room("a text", room), lines.collect())
+        }
+        Input::Reason(sheet, room) => {
+            let what = in_room("a sheet for a reason", room);
+            (what, sheet_lines(&sheet))
+        }
+        Input::Survey(Survey { sheet, list, steps }) => {
+            let mut lines = sheet_lines(&sheet);
+            lines.push(format!("list: {list:?}"));
+            lines.push(format!("steps: {steps:02X?}"));
+            let told = told::steps(&steps).into_iter().enumerate();
+            lines.extend(told.map(|(own, step)| format!("{own}: {}", step.words())));
+            ("a reason".to_string(), lines)
         }
     };
-    println!("input {number} of seed {seed}, {what} with a room of {room} bytes{fault}");
+    println!("input {number} of seed {seed}, {what}{fault}");
     for line in lines {
         println!("  {line}");
     }
+}
+
+fn sheet_lines(sheet: &[u8]) -> Vec<String> {
+    [hex(sheet), words(sheet)].concat()
 }
 
 fn watch(seed: u64, asked: &'static AtomicU64) {

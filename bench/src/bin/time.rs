@@ -1,14 +1,17 @@
 //! Times the proved panel and the independent one on the same sheets, turn by turn; the proved call
-//! for reasons beside the proved panel; and readers of texts: the proved one, the independent one and
-//! a quick one.
+//! for reasons beside the proved panel; the proved check of those reasons beside the independent one;
+//! and readers of texts: the proved one, the independent one and a quick one.
 //!
-//!     time          a line for each sheet and text: what it is, nanoseconds of each (- for one that isn't built in)
+//!     time          a line for each sheet and text: what it is, nanoseconds of each (- for one that isn't built in);
+//!                   and for each reason the number of bounds in its walks
 //!     time texts    the same for texts alone
 //!     time smt      the same sheets as questions to an SMT solver, each after a line that says what it is
 //!
 //! A verdict is a call on a sheet that holds, and so makes no list; a first list is a call on one
 //! that clashes, and a reason is one on the same sheet that makes the list and writes a reason for it.
-//! A reading is a call on a text that is one, and its size the text's bytes.
+//! A check is one of the panel's own reason: the independent one is timed from the same bytes, and
+//! from steps that are told already. A reading is a call on a text that is one, and its size the
+//! text's bytes.
 
 use bench::timing::{side_by_side, Side};
 use bench::{quick, SIZES};
@@ -45,6 +48,7 @@ fn sheets(smt: bool) {
                     #[cfg(feature = "panel")]
                     if !holds {
                         reason(&format!("{family} {size} reason"), &sheet.bytes(), &list);
+                        check(&format!("{family} {size}"), &sheet.bytes(), &list);
                     }
                 }
             }
@@ -250,6 +254,30 @@ fn reason(name: &str, sheet: &[u8], list: &[u8]) {
     };
     let place = 8 + list.len() as u16;
     side_by_side(name, [Some(Box::new(reasoned)), proved(sheet)], place);
+}
+
+/// Checks of the panel's own reason. A side's place is whether it says yes.
+#[cfg(feature = "panel")]
+fn check(name: &str, sheet: &[u8], list: &[u8]) {
+    let mut room = vec![0; baruvkesh::REASON_ROOM];
+    let bytes = match baruvkesh::reason(sheet, &mut room) {
+        baruvkesh::Reasoned::Written(reason) => reason.step_bytes(),
+        other => panic!("{name}: {other:?}"),
+    };
+    let steps = bench::told::steps(bytes);
+    let proved = || u16::from(bench::survey(sheet, list, bytes) == (0, 0));
+    let independent = || u16::from(bench::told::answer(sheet, list, bytes) == (0, 0));
+    let of_steps = || u16::from(second::reason::survey(sheet, list, &steps).is_ok());
+    let sides: [Side; 3] = [
+        Some(Box::new(proved)),
+        Some(Box::new(independent)),
+        Some(Box::new(of_steps)),
+    ];
+    side_by_side(&format!("{name} check"), sides, 1);
+    let bounds = steps
+        .iter()
+        .map(|step| step.first.len() + step.second.len());
+    println!("{name} bounds\t{}", bounds.sum::<usize>());
 }
 
 fn texts() {

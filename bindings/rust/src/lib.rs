@@ -1,5 +1,5 @@
 //! Judges a settings sheet: says whether its entries can be met together, with values that meet them or with the first list of entries
-//! that clash by themselves. The code that judges is proved; this crate lends it two slices and names what it answers.
+//! that clash by themselves. The code that judges is proved; this crate lends it slices and names what it answers.
 //!
 //! ```
 //! use baruvkesh::{judge, Answer, EntryNumber, ROOM_NEEDED};
@@ -27,6 +27,25 @@
 //!         // a walk over entry 0 from x back to x
 //!         let steps: Vec<Step> = reason.steps().collect();
 //!         assert!(matches!(steps[..], [Step::ClosingWalk { a: 0, .. }]));
+//!     }
+//!     other => println!("{other:?}"),
+//! }
+//! ```
+//!
+//! [`survey`] is such a check. It takes a reason from anybody, and a yes means that the entries of its list clash:
+//!
+//! ```
+//! use baruvkesh::{reason, survey, EntryNumber, Reasoned, Surveyed, REASON_ROOM};
+//!
+//! // one unknown x, and the entry x < x
+//! let sheet = [0, 18, 1, 1, 1, 0, 0, 0, 0, 0, 0, 0, 3, 0, 0, 0, 0, 0];
+//! let mut room = vec![0; REASON_ROOM];
+//! match reason(&sheet, &mut room) {
+//!     Reasoned::Written(reason) => {
+//!         let list: Vec<EntryNumber> = reason.entries().collect();
+//!         assert_eq!(survey(&sheet, &list, reason.step_bytes()), Surveyed::Yes);
+//!         // no step at all: the one after the last is wrong
+//!         assert_eq!(survey(&sheet, &list, &[]), Surveyed::Wrong(0));
 //!     }
 //!     other => println!("{other:?}"),
 //! }
@@ -73,6 +92,7 @@ pub struct TermNumber(pub u8);
 
 /// The number of an entry. It is never taken for a term's.
 #[derive(Clone, Copy, Debug, PartialEq, Eq, PartialOrd, Ord)]
+#[repr(transparent)]
 pub struct EntryNumber(pub u8);
 
 /// What the panel says of a sheet. The answer record stands in the first bytes of the room.
@@ -198,6 +218,19 @@ pub enum Over {
     Tie(u8),
 }
 
+/// What the check says of a reason.
+#[derive(Clone, Copy, Debug, PartialEq, Eq)]
+pub enum Surveyed {
+    /// 0: each step obeys the rules, and the entries of the list clash.
+    Yes,
+    /// 1: the step of this number is the first wrong one; where no step closes, it is the one after the last.
+    Wrong(usize),
+    /// 27: the entry numbers don't rise, or one isn't below L.
+    NoList,
+    /// The sheet is sent back, never with [`Refusal::Room`].
+    Refused(Refusal),
+}
+
 impl Answer<'_> {
     /// 0 for holds, 1 for clashes, and the refusal's number.
     pub fn number(&self) -> u8 {
@@ -288,9 +321,14 @@ impl<'a> Reason<'a> {
             .map(|&entry| EntryNumber(entry))
     }
 
+    /// The bytes of the steps, as [`survey`] takes them.
+    pub fn step_bytes(&self) -> &'a [u8] {
+        &self.0[self.listed()..]
+    }
+
     /// The steps; the last one closes.
     pub fn steps(&self) -> impl Iterator<Item = Step<'a>> + 'a {
-        let mut rest = &self.0[self.listed()..];
+        let mut rest = self.step_bytes();
         std::iter::from_fn(move || {
             let (head, bounds) = (rest.get(..13)?, &rest[13..]);
             let (there, bounds) = bounds.split_at(2 * usize::from(head[11]));
@@ -337,6 +375,27 @@ impl<'a> Walk<'a> {
             },
             back: bytes[0] % 2 == 1,
         })
+    }
+}
+
+impl Surveyed {
+    /// 0 for yes, 1 for a wrong step, 27, and the refusal's number.
+    pub fn number(&self) -> u8 {
+        match self {
+            Surveyed::Yes => 0,
+            Surveyed::Wrong(_) => 1,
+            Surveyed::NoList => 27,
+            Surveyed::Refused(why) => why.number(),
+        }
+    }
+
+    /// The number of the first wrong step, or the refusal's place, or 0.
+    pub fn place(&self) -> usize {
+        match *self {
+            Surveyed::Yes | Surveyed::NoList => 0,
+            Surveyed::Wrong(step) => step,
+            Surveyed::Refused(why) => why.place().into(),
+        }
     }
 }
 
@@ -393,6 +452,14 @@ extern "C" {
         room_len: usize,
     ) -> u64;
     fn baruvkesh_reason(sheet: *const u8, sheet_len: usize, room: *mut u8, room_len: usize) -> u64;
+    fn baruvkesh_survey(
+        sheet: *const u8,
+        sheet_len: usize,
+        list: *const u8,
+        list_len: usize,
+        steps: *const u8,
+        steps_len: usize,
+    ) -> u64;
 }
 
 /// Judges the sheet, and writes the answer record to the first bytes of the room unless the sheet is refused. The bytes past the record
@@ -433,6 +500,31 @@ pub fn reason<'a>(sheet: &[u8], room: &'a mut [u8]) -> Reasoned<'a> {
         25 => Reasoned::Short,
         26 => Reasoned::Holds,
         number => Reasoned::Refused(refusal(number, place)),
+    }
+}
+
+/// Checks a reason from anybody: whether each step obeys the rules for reasons and uses entries of the list only, and the last one closes with
+/// exactly the list's entries behind it. Steps are the bytes of a reason record behind its list; one whose bytes end before it does is wrong.
+/// Every reason of [`reason`] gets a yes. A yes means that the entries of the list clash, and doesn't vouch that it is the first of all lists.
+/// Any bytes and any three lengths are allowed.
+pub fn survey(sheet: &[u8], list: &[EntryNumber], steps: &[u8]) -> Surveyed {
+    // SAFETY: the function has no precondition but three slices, which it only reads, and these are; an entry number is a byte.
+    let answer = unsafe {
+        baruvkesh_survey(
+            sheet.as_ptr(),
+            sheet.len(),
+            list.as_ptr().cast(),
+            list.len(),
+            steps.as_ptr(),
+            steps.len(),
+        )
+    };
+    let place = (answer & 0xFFFF_FFFF) as usize;
+    match answer >> 32 {
+        0 => Surveyed::Yes,
+        1 => Surveyed::Wrong(place),
+        27 => Surveyed::NoList,
+        number => Surveyed::Refused(refusal(number, place)),
     }
 }
 

@@ -1,9 +1,10 @@
-// The calls for other languages: a static library with three functions of C's calling convention.
-// They are the panel's `judge`, the transcript's `transcribe` and the call for reasons, each with its answer in one number, and promise what
-// those promise.
+// The calls for other languages: a static library with four functions of C's calling convention.
+// They are the panel's `judge`, the transcript's `transcribe`, the call for reasons and the surveyor's check, each with its answer in one
+// number, and promise what those promise.
 ghost use Prim.Native.Nat.{_/_, _%_};
 ghost use Rattle.promise.specs.Answered.{Answered};
 ghost use Rattle.reason.specs.Reasoned.{Reasoned};
+ghost use Rattle.recited.specs.Recited.{Recited};
 ghost use Rattle.baruvkesh.specs.Called.{places, Called};
 
 // 2^32: places below it fit the answer's low half.
@@ -38,4 +39,13 @@ pub extern "C" fn baruvkesh_reason(sheet: &[u8], room: &mut [u8]) -> u64
 {
     let reply = reason::reason(sheet, room);
     (reply.number() as u64) * PLACES + (reply.place() as u64)
+}
+
+// The answer's number × 2^32 plus its place. The steps are bytes, as a reason record has them.
+#[no_mangle]
+pub extern "C" fn baruvkesh_survey(sheet: &[u8], list: &[u8], steps: &[u8]) -> u64
+    ensures { λ r. ⌜ Recited (now (sheet .entry)) (now (list .entry)) (now (steps .entry)) (r / places) (r % places) ⌝ }
+{
+    let told = recited::check(sheet, list, steps);
+    (told.number() as u64) * PLACES + (told.place() as u64)
 }

@@ -1,7 +1,6 @@
 pub mod Kept
 pub mod Ties
 pub mod Order
-pub mod Pigeon
 pub mod Range
 pub mod Relax
 pub mod Short

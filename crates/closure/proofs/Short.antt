@@ -12,8 +12,8 @@ use Rattle.closure.specs.Walk.Walk.{stop, step}
 use Rattle.closure.specs.Table.{reach, Held}
 use Rattle.closure.proofs.Order.{tight-refl, tight-trans, tight-same, added-assoc, added-mono, grow, shrink}
 use Rattle.closure.proofs.Order.Is.{plain}
-use Rattle.closure.proofs.Pigeon.{Distinct, in?, pigeon}
-use Rattle.closure.proofs.Pigeon.Distinct.{end, more}
+use Rattle.whole.proofs.Pigeon.{Distinct, in?, pigeon}
+use Rattle.whole.proofs.Pigeon.Distinct.{end, more}
 use Rattle.closure.proofs.Range.{near-is, near-added, within}
 use Rattle.closure.proofs.Relax.{Sums}
 use Rattle.closure.proofs.Walks.{reached, looser, first}

@@ -5,7 +5,7 @@ use mathlib.Core.Path.{_≡_, refl, sym, ap, _∙_}
 use mathlib.Core.List.{List, [], _∷_, List·Memᴰ as In, List·Memᴰ·head as here, List·Memᴰ·tail as later, List·Memᴰ·not-nil as not-nil}
 use lib.ListN.{length}
 use native.Mathlib.Omega.{arith}
-use Rattle.closure.proofs.Pigeon.{Distinct, end, more, pigeon}
+use Rattle.whole.proofs.Pigeon.{Distinct, end, more, pigeon}
 use Rattle.cells.specs.Cells.{cell}
 use Rattle.sketch.specs.Sketch.{left, right}
 use Rattle.forest.specs.Labels.{Labelled}

@@ -11,7 +11,7 @@ use native.Mathlib.Omega.{arith}
 use Rattle.kind.specs.Code.{base}
 use Rattle.kind.proofs.Codes.{sum-finite}
 use Rattle.closure.specs.Closed.{Closed, TiedAt}
-use Rattle.closure.proofs.Pigeon.{Distinct, end, more, pigeon}
+use Rattle.whole.proofs.Pigeon.{Distinct, end, more, pigeon}
 use Rattle.forest.specs.Labels.{relabelled}
 use Rattle.forest.proofs.Rows.{relabelled-keeps, relabelled-drops, relabelled-joined}
 

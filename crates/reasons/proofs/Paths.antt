@@ -19,33 +19,33 @@ use Rattle.reasons.specs.Rules.Chain.{stop, step}
 use Rattle.reasons.specs.Rules.TieRight.{by-walks, by-functions}
 
 -- a step ties two points with one gap
-record Same (a b a' b' : ℕ) (c c' : ℤ) : Type 0 where
-  left : a ≡ a'
-  right : b ≡ b'
-  gap : c ≡ c'
+pub record Same (a b a' b' : ℕ) (c c' : ℤ) : Type 0 where
+  pub left : a ≡ a'
+  pub right : b ≡ b'
+  pub gap : c ≡ c'
 
-ties-one : {k : Step} {a b a' b' : ℕ} {c c' : ℤ} → Ties k a b c → Ties k a' b' c' → Same a b a' b' c c'
+pub ties-one : {k : Step} {a b a' b' : ℕ} {c c' : ℤ} → Ties k a b c → Ties k a' b' c' → Same a b a' b' c c'
 ties-one walks walks = record { left = refl; right = refl; gap = refl }
 ties-one functions functions = record { left = refl; right = refl; gap = refl }
 
 -- i and j are in one group, whatever the gap and the path
-record Grouped (steps : List Step) (n i j : ℕ) : Type 0 where
-  gap : ℤ
-  path : List ℕ
-  tied : Tied steps n i j gap path
+pub record Grouped (steps : List Step) (n i j : ℕ) : Type 0 where
+  pub gap : ℤ
+  pub path : List ℕ
+  pub tied : Tied steps n i j gap path
 
 module _ {steps : List Step} where
-  abbrev group : {n i j : ℕ} {c : ℤ} {p : List ℕ} → Tied steps n i j c p → Grouped steps n i j
+  abbrev pub group : {n i j : ℕ} {c : ℤ} {p : List ℕ} → Tied steps n i j c p → Grouped steps n i j
   group {c = c} {p} h = record { gap = c; path = p; tied = h }
 
-  turned : {n i j : ℕ} {c : ℤ} {p : List ℕ} → Tied steps n i j c p → Grouped steps n j i
+  pub turned : {n i j : ℕ} {c : ℤ} {p : List ℕ} → Tied steps n i j c p → Grouped steps n j i
   turned itself = group itself
   turned (before h) = group (before (turned h .tied))
   turned (forth h t k) = group (back (turned k .tied) t (turned h .tied))
   turned (back h t k) = group (forth (turned k .tied) t (turned h .tied))
 
   -- groups with a point in common are one; the last step's tie is gone over once at most
-  on : {n i j k : ℕ} {c d : ℤ} {p q : List ℕ} → Tied steps n i j c p → Tied steps n j k d q → Grouped steps n i k
+  pub on : {n i j k : ℕ} {c d : ℤ} {p q : List ℕ} → Tied steps n i j c p → Tied steps n j k d q → Grouped steps n i k
   on itself g = group g
   on (before h) (before g) = group (before (on h g .tied))
   on (before h) (forth g t f) = group (forth (on h g .tied) t f)

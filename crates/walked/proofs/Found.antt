@@ -17,7 +17,7 @@ use Rattle.closure.specs.Closed.{Closed, TiedAt}
 use Rattle.closure.specs.Walk.{Tight, Walk, Reached}
 use Rattle.closure.specs.Table.{step, reach}
 use Rattle.closure.proofs.Order.{tight-trans, tight-antisym, tight-code}
-use Rattle.closure.proofs.Pigeon.{pigeon}
+use Rattle.whole.proofs.Pigeon.{pigeon}
 use Rattle.closure.proofs.Relax.{Sums}
 use Rattle.closure.proofs.Short.{kinds, shorten, below, least}
 use Rattle.closure.proofs.Table.{sums-of}

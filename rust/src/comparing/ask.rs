@@ -2,6 +2,8 @@
 
 /// What can be asked for.
 pub struct Choice {
+    /// What a wrong call is told.
+    pub usage: &'static str,
     /// The option for how many.
     pub count: &'static str,
     /// How many, if it isn't given.
@@ -76,6 +78,7 @@ mod tests {
 
     fn ask(call: &str) -> Option<Ask> {
         let choice = Choice {
+            usage: "",
             count: "--sheets",
             default: 4000,
             families: vec!["chains", "mix", "bytes"],

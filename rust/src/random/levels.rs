@@ -42,6 +42,12 @@ impl Levels {
         self.of[usize::from(a.0)] - self.of[usize::from(b.0)]
     }
 
+    /// The level of each term, where a part is one.
+    pub fn whole(self) -> Vec<i64> {
+        assert_eq!(self.parts, 1);
+        self.of
+    }
+
     pub fn meet(&self, entry: &Entry) -> bool {
         let over = self.over(entry.a, entry.b);
         let c = entry.c * self.parts;

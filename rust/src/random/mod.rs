@@ -1,7 +1,7 @@
 //! Random sheets, for the programs that test and time panels: `families` has the recipes, `sheet`
 //! is what they are made in, and `words` shows one. Rests on document 01's tables, and not on the
 //! panel beside it, but for the limit. Random texts, by `texts` and `typist`, rest on document 02
-//! in the same way.
+//! in the same way. Only `surveys`, reasons for a check, takes them from the writer beside it.
 
 #![allow(missing_docs)]
 
@@ -10,6 +10,7 @@ pub mod judged;
 mod levels;
 mod reasons;
 pub mod sheet;
+pub mod surveys;
 pub mod texts;
 mod typist;
 pub mod words;

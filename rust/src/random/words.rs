@@ -6,6 +6,12 @@ pub fn hex(sheet: &[u8]) -> Vec<String> {
     sheet.chunks(6).map(line).collect()
 }
 
+/// Bytes of no such form in hex.
+pub fn rows(bytes: &[u8]) -> Vec<String> {
+    let line = |part: &[u8]| list(part.iter().map(|byte| format!("{byte:02X}")), " ");
+    bytes.chunks(32).map(line).collect()
+}
+
 /// The head, and the terms and entries if there are as many as the head says.
 pub fn words(sheet: &[u8]) -> Vec<String> {
     let lent = sheet.len();

@@ -12,7 +12,7 @@ struct Branch {
 }
 
 /// The ties between two points of a group, and the gap that adds up along them.
-#[derive(Debug, PartialEq, Eq)]
+#[derive(Debug, Default, PartialEq, Eq)]
 pub struct Path {
     pub gap: i64,
     pub ties: Vec<usize>,

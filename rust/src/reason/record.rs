@@ -3,17 +3,15 @@
 //! Rests on "Request 4: the reason record" of the paper on byte forms. That says which bytes are a
 //! record; whether the steps are right is another question.
 
-use super::step::{Bound, Step};
+use super::step::{Step, BOUND};
 use crate::sheet::MOST;
 
 const HEAD: usize = 10;
-const STEP: usize = 13;
-const BOUND: usize = 2;
 const VERSION: u8 = 1;
 
 /// The room that is always enough: the head, as many entries as there may be, and for each point a
 /// step of two walks with a bound for each point.
-pub const ROOM: usize = HEAD + MOST + (MOST + 1) * (STEP + 2 * BOUND * (MOST + 1));
+pub const ROOM: usize = HEAD + MOST + (MOST + 1) * (Step::HEAD + 2 * BOUND * (MOST + 1));
 
 /// A list of entries, and the steps that show that they clash.
 #[derive(Clone, Debug, PartialEq, Eq)]
@@ -37,7 +35,7 @@ impl Reason {
         bytes.extend((self.steps.len() as u16).to_be_bytes());
         bytes.extend(&self.list);
         for step in &self.steps {
-            bytes.extend(step_bytes(step));
+            bytes.extend(step.bytes());
         }
         let length = bytes.len() as u32;
         bytes[..4].copy_from_slice(&length.to_be_bytes());
@@ -46,6 +44,13 @@ impl Reason {
 
     /// Reads a record; or says what is wrong with bytes that are none.
     pub fn from(record: &[u8]) -> Result<Reason, String> {
+        let reason = Reason::by_form(record)?;
+        not_a_list(&reason.list).map_or(Ok(reason), Err)
+    }
+
+    /// The same of a record from anybody, whose list may be any numbers: that is for the check to
+    /// say.
+    pub fn by_form(record: &[u8]) -> Result<Reason, String> {
         let mut rest = Rest { record, at: 0 };
         let stated = rest.number(4, "its length")?;
         if stated != record.len() as u64 {
@@ -59,9 +64,6 @@ impl Reason {
         let k = rest.number(2, "k")? as usize;
         let count = rest.number(2, "the number of steps")? as usize;
         let list = rest.part(k, "the clash list")?.to_vec();
-        if let Some(wrong) = not_a_list(&list) {
-            return Err(wrong);
-        }
         let mut steps = Vec::new();
         for own in 0..count {
             steps.push(rest.step(&format!("step {own}"))?);
@@ -91,16 +93,6 @@ fn not_a_list(list: &[u8]) -> Option<String> {
     beyond.map(|entry| format!("the clash list has entry {entry}, not below {MOST}"))
 }
 
-fn step_bytes(step: &Step) -> Vec<u8> {
-    let mut bytes = vec![step.kind, step.a, step.b];
-    bytes.extend(step.c.to_be_bytes());
-    bytes.extend([step.first.len() as u8, step.second.len() as u8]);
-    for bound in step.first.iter().chain(&step.second) {
-        bytes.extend([bound.kind, bound.number]);
-    }
-    bytes
-}
-
 /// What is left of a record.
 struct Rest<'a> {
     record: &'a [u8],
@@ -128,28 +120,8 @@ impl<'a> Rest<'a> {
     }
 
     fn step(&mut self, what: &str) -> Result<Step, String> {
-        let (kind, a, b) = (self.byte(what)?, self.byte(what)?, self.byte(what)?);
-        // Two's complement: the same bits.
-        let c = self.number(8, what)? as i64;
-        let counts = [self.byte(what)?, self.byte(what)?];
-        let [first, second] = counts.map(|count| self.walk(count, what));
-        let (first, second) = (first?, second?);
-        Ok(Step {
-            kind,
-            a,
-            b,
-            c,
-            first,
-            second,
-        })
-    }
-
-    fn walk(&mut self, count: u8, what: &str) -> Result<Vec<Bound>, String> {
-        let part = self.part(BOUND * usize::from(count), what)?;
-        let bound = |two: &[u8]| Bound {
-            kind: two[0],
-            number: two[1],
-        };
-        Ok(part.chunks_exact(BOUND).map(bound).collect())
+        let head = self.part(Step::HEAD, what)?;
+        let head = head.try_into().expect("a part has its length");
+        Ok(Step::from(head, self.part(Step::behind(head), what)?))
     }
 }

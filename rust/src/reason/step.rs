@@ -1,5 +1,8 @@
-//! Steps of a reason, and the bounds that their walks go over. Any bytes can be told as steps, right
-//! or wrong; `survey` tells which they are.
+//! Steps of a reason, and the bounds that their walks go over, with their byte form. Any bytes can be
+//! told as steps, right or wrong; `survey` tells which they are.
+
+/// The bytes of a bound.
+pub const BOUND: usize = 2;
 
 /// What a walk goes over: an entry, a number or shift term, or an earlier tie step.
 #[derive(Clone, Copy, Debug, PartialEq, Eq)]
@@ -133,6 +136,43 @@ impl Step {
             c: 0,
             first,
             second,
+        }
+    }
+
+    /// How many bytes a step has before its bounds.
+    pub const HEAD: usize = 13;
+
+    /// The byte form.
+    pub fn bytes(&self) -> Vec<u8> {
+        let mut bytes = vec![self.kind, self.a, self.b];
+        bytes.extend(self.c.to_be_bytes());
+        bytes.extend([self.first.len() as u8, self.second.len() as u8]);
+        for bound in self.first.iter().chain(&self.second) {
+            bytes.extend([bound.kind, bound.number]);
+        }
+        bytes
+    }
+
+    /// How many bytes of bounds are behind a head.
+    pub fn behind(head: &[u8; Step::HEAD]) -> usize {
+        BOUND * (usize::from(head[11]) + usize::from(head[12]))
+    }
+
+    /// From the byte form: a head, and as many bytes of bounds as are behind it.
+    pub fn from(head: &[u8; Step::HEAD], bounds: &[u8]) -> Step {
+        let [kind, a, b, c @ .., first, _] = *head;
+        let bound = |two: &[u8]| Bound {
+            kind: two[0],
+            number: two[1],
+        };
+        let mut bounds = bounds.chunks_exact(BOUND).map(bound);
+        Step {
+            kind,
+            a,
+            b,
+            c: i64::from_be_bytes(c),
+            first: bounds.by_ref().take(first.into()).collect(),
+            second: bounds.collect(),
         }
     }
 

@@ -5,18 +5,21 @@
 //! something by itself.
 
 use super::forest::{Forest, Path};
+use super::slip::Slip;
 use super::step::{Bound, Step};
 use crate::entries::Set;
 use crate::sheet::{entries, terms, Record, MOST};
 use std::fmt;
 
 // Kinds of terms and entries.
+const UNKNOWN: u8 = 0;
 const NUMBER: u8 = 1;
 const SHIFT: u8 = 2;
 const ONE: u8 = 3;
 const TWO: u8 = 4;
 const EQUAL: u8 = 0;
 const UNEQUAL: u8 = 1;
+const AT_MOST: u8 = 2;
 const UNDER: u8 = 3;
 
 /// A tie's c lies from minus this to this.
@@ -40,12 +43,29 @@ impl fmt::Display for Wrong {
 /// Whether the steps show that the entries of a list clash, and use them all. The sheet is one that
 /// isn't refused, and the list rises and lies below L.
 pub fn survey(sheet: &[u8], list: &[u8], steps: &[Step]) -> Result<(), Wrong> {
-    Survey::of(sheet, list, steps).map(drop)
+    check(sheet, list, steps, None)
+}
+
+/// The same, perhaps with a slip.
+pub fn check(sheet: &[u8], list: &[u8], steps: &[Step], slip: Option<Slip>) -> Result<(), Wrong> {
+    Survey::of(sheet, list, steps, slip).map(drop)
+}
+
+/// The entries behind the last step, rising, if with the right list the answer is yes.
+pub fn behind(sheet: &[u8], steps: &[Step]) -> Option<Vec<u8>> {
+    let all: Vec<u8> = (0..sheet[4]).collect();
+    let Survey { behind, .. } = Survey::of(sheet, &all, steps, Some(Slip::NotBehind)).ok()?;
+    let behind = behind[steps.len() - 1];
+    Some(
+        all.into_iter()
+            .filter(|&entry| behind[usize::from(entry)])
+            .collect(),
+    )
 }
 
 /// The steps that the last one doesn't rest on. The rules allow them, and a good reason has none.
 pub fn needless(sheet: &[u8], list: &[u8], steps: &[Step]) -> Result<Vec<usize>, Wrong> {
-    let Survey { rests, .. } = Survey::of(sheet, list, steps)?;
+    let Survey { rests, .. } = Survey::of(sheet, list, steps, None)?;
     let mut needed = vec![false; steps.len()];
     needed[steps.len() - 1] = true;
     // A step rests on earlier ones only.
@@ -81,12 +101,6 @@ struct Used {
 }
 
 impl Used {
-    fn ties(paths: impl IntoIterator<Item = Path>) -> Used {
-        let ties = paths.into_iter().flat_map(|path| path.ties).collect();
-        let entries = Vec::new();
-        Used { entries, ties }
-    }
-
     fn with(mut self, other: Used) -> Used {
         self.entries.extend(other.entries);
         self.ties.extend(other.ties);
@@ -100,6 +114,7 @@ struct Survey<'a> {
     entries: Vec<Record>,
     list: &'a [u8],
     steps: &'a [Step],
+    slip: Option<Slip>,
     forest: Forest,
     /// For each step so far the ties that it rests on, and the entries behind it.
     rests: Vec<Vec<usize>>,
@@ -107,7 +122,12 @@ struct Survey<'a> {
 }
 
 impl<'a> Survey<'a> {
-    fn of(sheet: &[u8], list: &'a [u8], steps: &'a [Step]) -> Result<Survey<'a>, Wrong> {
+    fn of(
+        sheet: &[u8],
+        list: &'a [u8],
+        steps: &'a [Step],
+        slip: Option<Slip>,
+    ) -> Result<Survey<'a>, Wrong> {
         let terms: Vec<Record> = terms(sheet).collect();
         let mut survey = Survey {
             forest: Forest::new(terms.len() + 1),
@@ -115,6 +135,7 @@ impl<'a> Survey<'a> {
             entries: entries(sheet).collect(),
             list,
             steps,
+            slip,
             rests: Vec::new(),
             behind: Vec::new(),
         };
@@ -131,6 +152,10 @@ impl<'a> Survey<'a> {
         }
     }
 
+    fn slips(&self, slip: Slip) -> bool {
+        self.slip == Some(slip)
+    }
+
     fn step(&mut self, own: usize) -> Result<(), String> {
         let step = &self.steps[own];
         if step.closes() && own + 1 < self.steps.len() {
@@ -143,7 +168,7 @@ impl<'a> Survey<'a> {
             Step::UNEQUAL => self.closing_unequal(step)?,
             kind => return Err(format!("there is no step of kind {kind}")),
         };
-        let behind = self.all_behind(&used);
+        let behind = self.all_behind(&used, step.closes());
         if step.closes() {
             self.is_list(&behind)?;
         } else {
@@ -156,94 +181,175 @@ impl<'a> Survey<'a> {
 
     fn tie_by_walks(&self, step: &Step) -> Result<Used, String> {
         let &Step { a, b, c, .. } = step;
-        self.joins(step)?;
-        if !(-MOST_C..=MOST_C).contains(&c) {
+        self.joins(step, Slip::Again)?;
+        let limits = match self.slip {
+            Some(Slip::AnyFar) => i64::MIN..=i64::MAX,
+            Some(Slip::TopOut) => -MOST_C..=MOST_C - 1,
+            Some(Slip::BottomOut) => 1 - MOST_C..=MOST_C,
+            Some(Slip::TopOver) => -MOST_C..=MOST_C + 1,
+            Some(Slip::BottomOver) => -MOST_C - 1..=MOST_C,
+            _ => -MOST_C..=MOST_C,
+        };
+        if !limits.contains(&c) {
             return Err(format!("its c is {c}, beyond 2^31"));
         }
-        let there = self.walk("first walk", a, b, &step.first)?;
-        let back = self.walk("second walk", b, a, &step.second)?;
-        for (name, walk, total) in [("first", &there, c), ("second", &back, -c)] {
-            if walk.total != total {
-                let is = walk.total;
-                return Err(format!("its {name} walk comes to {is}, not {total}"));
-            }
-            if walk.strict {
-                return Err(format!("its {name} walk has a strict bound"));
-            }
+        let there = self.half("first walk", a, b, c, &step.first, Slip::AnyC)?;
+        if self.slips(Slip::OneWay) {
+            return Ok(there);
         }
-        Ok(there.used.with(back.used))
+        let c = c.wrapping_neg();
+        let back = self.half("second walk", b, a, c, &step.second, Slip::AnyBack)?;
+        Ok(match self.slip {
+            Some(Slip::ThereOnly) => there,
+            _ => there.with(back),
+        })
+    }
+
+    /// One of the two walks of a tie.
+    fn half(
+        &self,
+        name: &str,
+        from: u8,
+        to: u8,
+        c: i64,
+        bounds: &[Bound],
+        any: Slip,
+    ) -> Result<Used, String> {
+        let walk = self.walk(name, from, to, bounds)?;
+        let less = walk.total < c && self.slips(Slip::AtMostC);
+        if walk.total != c && !less && !self.slips(any) {
+            let is = walk.total;
+            return Err(format!("its {name} comes to {is}, not {c}"));
+        }
+        if walk.strict && !self.slips(Slip::StrictTie) {
+            return Err(format!("its {name} has a strict bound"));
+        }
+        Ok(walk.used)
     }
 
     fn tie_by_functions(&self, step: &Step) -> Result<Used, String> {
         let &Step { a, b, c, .. } = step;
-        if c != 0 {
+        if c != 0 && !self.slips(Slip::UnusedC) {
             return Err(format!("its c is {c}, not 0"));
         }
-        self.no_bounds("first", &step.first)?;
-        self.no_bounds("second", &step.second)?;
+        self.no_bounds("first", &step.first, Slip::UnusedFirst)?;
+        self.no_bounds("second", &step.second, Slip::UnusedSecond)?;
         let (one, two) = (self.application(a)?, self.application(b)?);
-        if (one.kind, one.symbol) != (two.kind, two.symbol) {
+        let one_kind = one.kind == two.kind || self.slips(Slip::AnyCount);
+        let one_symbol = one.symbol == two.symbol || self.slips(Slip::AnySymbol);
+        if !(one_kind && one_symbol) {
             return Err(format!("t{a} and t{b} aren't of one kind and symbol"));
         }
-        self.joins(step)?;
-        let first = self.equal("first", one.a, two.a)?;
-        let second = match one.kind {
-            TWO => Some(self.equal("second", one.b, two.b)?),
-            _ => None,
+        self.joins(step, Slip::AgainApplied)?;
+        let straight = self.arguments(one, two);
+        let paths = match self.slip {
+            Some(Slip::Crossed) if straight.is_err() && one.kind == TWO => {
+                let (a, b) = (two.b, two.a);
+                self.arguments(one, Record { a, b, ..two })?
+            }
+            _ => straight?,
         };
-        Ok(Used::ties([first].into_iter().chain(second)))
+        Ok(self.over_paths(paths))
+    }
+
+    /// The paths between the arguments of two applications.
+    fn arguments(&self, one: Record, two: Record) -> Result<Vec<Path>, String> {
+        let mut paths = Vec::new();
+        if !self.slips(Slip::SecondArgument) || one.kind != TWO {
+            paths.push(self.equal("first", one.a, two.a)?);
+        }
+        if one.kind.min(two.kind) == TWO && !self.slips(Slip::FirstArgument) {
+            paths.push(self.equal("second", one.b, two.b)?);
+        }
+        if self.slips(Slip::FirstPath) {
+            paths.truncate(1);
+        }
+        Ok(paths)
+    }
+
+    fn over_paths(&self, paths: Vec<Path>) -> Used {
+        let entries = Vec::new();
+        let ties = match self.slip {
+            Some(Slip::WalksOnly) => Vec::new(),
+            _ => paths.into_iter().flat_map(|path| path.ties).collect(),
+        };
+        Used { entries, ties }
+    }
+
+    /// The path between two points, if they are tied.
+    fn path(&self, a: u8, b: u8) -> Option<Path> {
+        let path = self.forest.path(a, b)?;
+        match self.slip {
+            Some(Slip::NotItself) if a == b => None,
+            Some(Slip::ShortGap) => Some(Path {
+                gap: i64::from(path.gap as i32),
+                ..path
+            }),
+            _ => Some(path),
+        }
     }
 
     fn closing_walk(&self, step: &Step) -> Result<Used, String> {
         self.is_point(step.a)?;
         self.no_b_and_c(step)?;
-        self.no_bounds("second", &step.second)?;
+        self.no_bounds("second", &step.second, Slip::UnusedSecond)?;
         let walk = self.walk("walk", step.a, step.a, &step.first)?;
         match (walk.total, walk.strict) {
+            _ if self.slips(Slip::AnyTotal) => Ok(walk.used),
             (total, _) if total < 0 => Ok(walk.used),
-            (0, true) => Ok(walk.used),
-            (0, false) => Err(String::from("its walk comes to 0 without a strict entry")),
+            (0, strict) if strict || self.slips(Slip::NotUnder) => Ok(walk.used),
+            (0, _) => Err(String::from("its walk comes to 0 without a strict entry")),
             (total, _) => Err(format!("its walk comes to {total}, which isn't below 0")),
         }
     }
 
     fn closing_unequal(&self, step: &Step) -> Result<Used, String> {
         self.no_b_and_c(step)?;
-        self.no_bounds("first", &step.first)?;
-        self.no_bounds("second", &step.second)?;
+        self.no_bounds("first", &step.first, Slip::UnusedFirst)?;
+        self.no_bounds("second", &step.second, Slip::UnusedSecond)?;
         let own = step.a;
-        let entry = self.listed(own)?;
-        if entry.kind != UNEQUAL {
+        let entry = self.listed(own, Slip::UnequalOffList)?;
+        if entry.kind != UNEQUAL && !self.slips(Slip::AnyRelation) {
             return Err(format!("entry {own} isn't one with ≠"));
         }
-        let (a, b, c) = (entry.a, entry.b, i64::from(entry.c));
-        match self.forest.path(a, b) {
-            None => Err(format!("t{a} and t{b} of entry {own} aren't tied")),
-            Some(path) if path.gap != c => {
+        let (a, b) = (entry.a, entry.b);
+        let c = match self.slip {
+            Some(Slip::TurnedC) => -i64::from(entry.c),
+            _ => i64::from(entry.c),
+        };
+        let path = match self.path(a, b) {
+            None if self.slips(Slip::Untied) => None,
+            None => return Err(format!("t{a} and t{b} of entry {own} aren't tied")),
+            Some(path) if path.gap != c && !self.slips(Slip::OtherC) => {
                 let gap = path.gap;
-                Err(format!(
+                return Err(format!(
                     "t{a} and t{b} of entry {own} are tied at {gap}, not {c}"
-                ))
+                ));
             }
-            Some(path) => {
-                let entries = vec![own];
-                let ties = path.ties;
-                Ok(Used { entries, ties })
-            }
-        }
+            path => path,
+        };
+        let entries = vec![own];
+        let ties = Vec::new();
+        let over = self.over_paths(path.into_iter().collect());
+        Ok(Used { entries, ties }.with(over))
     }
 
     fn no_b_and_c(&self, step: &Step) -> Result<(), String> {
         match (step.b, step.c) {
-            (0, 0) => Ok(()),
-            (0, c) => Err(format!("it has no c, and {c} there")),
-            (b, _) => Err(format!("it has no b, and {b} there")),
+            (b, _) if b != 0 && !self.slips(Slip::UnusedB) => {
+                Err(format!("it has no b, and {b} there"))
+            }
+            (_, c) if c != 0 && !self.slips(Slip::UnusedC) => {
+                Err(format!("it has no c, and {c} there"))
+            }
+            _ => Ok(()),
         }
     }
 
-    fn no_bounds(&self, name: &str, walk: &[Bound]) -> Result<(), String> {
+    fn no_bounds(&self, name: &str, walk: &[Bound], unused: Slip) -> Result<(), String> {
         match walk.len() {
             0 => Ok(()),
+            _ if self.slips(unused) => Ok(()),
             many => Err(format!(
                 "it has no {name} walk, and one of {many} bounds there"
             )),
@@ -252,18 +358,27 @@ impl<'a> Survey<'a> {
 
     /// The terms are points, and the zero level behind them.
     fn is_point(&self, point: u8) -> Result<(), String> {
-        match usize::from(point) <= self.terms.len() {
-            true => Ok(()),
-            false => Err(format!("{point} is no point")),
+        let zero = self.terms.len();
+        match usize::from(point) {
+            point if point == zero && self.slips(Slip::ZeroNoPoint) => {
+                Err(String::from("the zero level is no point"))
+            }
+            point if point <= zero => Ok(()),
+            _ => Err(format!("{point} is no point")),
         }
     }
 
     /// A tie is between two points of different groups.
-    fn joins(&self, step: &Step) -> Result<(), String> {
+    fn joins(&self, step: &Step, again: Slip) -> Result<(), String> {
         let &Step { a, b, .. } = step;
         self.is_point(a)?;
         self.is_point(b)?;
-        match self.forest.tied(a, b) {
+        let very_two = |tie: &Step| [(a, b), (b, a)].contains(&(tie.a, tie.b));
+        let tied = match self.slip {
+            Some(Slip::VeryPoints) => self.steps[..self.rests.len()].iter().any(very_two),
+            _ => self.forest.tied(a, b),
+        };
+        match tied && !self.slips(again) {
             false => Ok(()),
             true => Err(format!("{a} and {b} are of one group already")),
         }
@@ -272,14 +387,16 @@ impl<'a> Survey<'a> {
     fn application(&self, term: u8) -> Result<Record, String> {
         match self.terms.get(usize::from(term)) {
             Some(&record) if matches!(record.kind, ONE | TWO) => Ok(record),
+            Some(&record) if self.slips(Slip::NotApplied) => Ok(record),
             _ => Err(format!("{term} is no application")),
         }
     }
 
     /// The path between two arguments, if they are tied with gap 0.
     fn equal(&self, name: &str, a: u8, b: u8) -> Result<Path, String> {
-        match self.forest.path(a, b) {
-            Some(path) if path.gap == 0 => Ok(path),
+        match self.path(a, b) {
+            Some(path) if path.gap == 0 || self.slips(Slip::OtherGap) => Ok(path),
+            None if self.slips(Slip::AnyArguments) => Ok(Path::default()),
             Some(Path { gap, .. }) => Err(format!(
                 "the {name} arguments t{a} and t{b} are tied at {gap}, not 0"
             )),
@@ -287,19 +404,25 @@ impl<'a> Survey<'a> {
         }
     }
 
-    fn listed(&self, entry: u8) -> Result<Record, String> {
+    fn listed(&self, entry: u8, off_list: Slip) -> Result<Record, String> {
+        let all = self.list.is_empty() && self.slips(Slip::EmptyAll);
+        let listed = all || self.list.contains(&entry) || self.slips(off_list);
         match self.entries.get(usize::from(entry)) {
             None => Err(format!("there is no entry {entry}")),
-            Some(_) if !self.list.contains(&entry) => {
-                Err(format!("entry {entry} isn't on the list"))
-            }
+            Some(_) if !listed => Err(format!("entry {entry} isn't on the list")),
             Some(&record) => Ok(record),
         }
     }
 
     /// Follows a walk from one point to another.
     fn walk(&self, name: &str, from: u8, to: u8, bounds: &[Bound]) -> Result<Walk, String> {
-        let (many, most) = (bounds.len(), self.terms.len() + 1);
+        let many = bounds.len();
+        let most = match self.slip {
+            Some(Slip::LongWalk) => self.terms.len() + 2,
+            Some(Slip::ShortWalk) => self.terms.len(),
+            Some(Slip::MostBounds) => MOST + 1,
+            _ => self.terms.len() + 1,
+        };
         if many > most {
             return Err(format!("its {name} has {many} bounds, over {most}"));
         }
@@ -308,7 +431,11 @@ impl<'a> Survey<'a> {
         for (own, &bound) in bounds.iter().enumerate() {
             let way = self.way(bound);
             let way = way.map_err(|why| format!("its {name}, bound {own}: {why}"))?;
-            if way.from != at {
+            let loose = match own {
+                0 => Slip::AnyStart,
+                _ => Slip::Unchained,
+            };
+            if way.from != at && !self.slips(loose) {
                 let from = way.from;
                 return Err(format!(
                     "its {name} doesn't chain: bound {own} goes from {from}, not {at}"
@@ -319,11 +446,16 @@ impl<'a> Survey<'a> {
             walk.strict |= way.strict;
             match bound.over() {
                 Bound::ENTRY => walk.used.entries.push(bound.number),
-                Bound::TIE => walk.used.ties.push(usize::from(bound.number)),
+                Bound::TIE if !self.slips(Slip::PathsOnly) => {
+                    walk.used.ties.push(usize::from(bound.number));
+                }
                 _ => {}
             }
         }
-        match at == to {
+        if self.slips(Slip::ShortTotal) {
+            walk.total = i64::from(walk.total as i32);
+        }
+        match at == to || self.slips(Slip::AnyEnd) {
             true => Ok(walk),
             false => Err(format!("its {name} ends at {at}, not {to}")),
         }
@@ -345,25 +477,34 @@ impl<'a> Survey<'a> {
             true => Way {
                 from: way.to,
                 to: way.from,
-                gap: -way.gap,
+                gap: match self.slip {
+                    Some(Slip::SameSign) => way.gap,
+                    _ => -way.gap,
+                },
                 strict: false,
             },
         })
     }
 
     fn over_entry(&self, number: u8, back: bool) -> Result<Way, String> {
-        let entry = self.listed(number)?;
-        if entry.kind == UNEQUAL {
+        let entry = self.listed(number, Slip::OffList)?;
+        if entry.kind == UNEQUAL && !self.slips(Slip::OverUnequal) {
             return Err(format!("entry {number} has ≠, which no walk goes over"));
         }
-        if back && entry.kind != EQUAL {
+        let either = match entry.kind {
+            EQUAL => !self.slips(Slip::EqualForward),
+            AT_MOST => self.slips(Slip::AtMostBack),
+            UNDER => self.slips(Slip::UnderBack),
+            _ => true,
+        };
+        if back && !either {
             return Err(format!("entry {number} has no =, and is walked backwards"));
         }
         Ok(Way {
             from: entry.a,
             to: entry.b,
             gap: i64::from(entry.c),
-            strict: entry.kind == UNDER,
+            strict: entry.kind == UNDER && !self.slips(Slip::NotStrict),
         })
     }
 
@@ -373,6 +514,9 @@ impl<'a> Survey<'a> {
         let (to, c) = match term {
             Some(term) if term.kind == NUMBER => (zero, term.c),
             Some(term) if term.kind == SHIFT => (term.a, term.c),
+            Some(term) if term.kind == UNKNOWN && self.slips(Slip::OverUnknown) => (zero, 0),
+            Some(term) if term.kind >= ONE && self.slips(Slip::OverApplication) => (term.a, 0),
+            None if number == zero && self.slips(Slip::OverZero) => (zero, 0),
             _ => return Err(format!("{number} is no number or shift term")),
         };
         Ok(Way {
@@ -385,7 +529,13 @@ impl<'a> Survey<'a> {
 
     fn over_tie(&self, number: u8) -> Result<Way, String> {
         // So many steps are behind us, and only ties aren't wrong there.
-        let earlier = usize::from(number) < self.rests.len();
+        let own = self.rests.len();
+        let end = match self.slip {
+            Some(Slip::OwnTie) => own + 1,
+            Some(Slip::LaterTie) => self.steps.len(),
+            _ => own,
+        };
+        let earlier = usize::from(number) < end;
         match self.steps.get(usize::from(number)) {
             Some(&Step { a, b, c, .. }) if earlier => Ok(Way {
                 from: a,
@@ -398,13 +548,19 @@ impl<'a> Survey<'a> {
     }
 
     /// The entries behind a step: its own, with those behind every tie that it rests on.
-    fn all_behind(&self, used: &Used) -> Set {
+    fn all_behind(&self, used: &Used, closes: bool) -> Set {
         let mut behind: Set = [false; MOST];
         for &entry in &used.entries {
             behind[usize::from(entry)] = true;
         }
-        for &tie in &used.ties {
-            for (entry, more) in behind.iter_mut().zip(self.behind[tie]) {
+        let ties = match self.slip {
+            Some(Slip::OneDeep) if !closes => Vec::new(),
+            Some(Slip::EveryTie) => (0..self.behind.len()).collect(),
+            _ => used.ties.clone(),
+        };
+        // A tie that isn't there yet, over which only a slip goes, has nothing behind it.
+        for more in ties.iter().filter_map(|&tie| self.behind.get(tie)) {
+            for (entry, more) in behind.iter_mut().zip(more) {
                 *entry |= more;
             }
         }
@@ -413,10 +569,12 @@ impl<'a> Survey<'a> {
 
     /// Only listed entries are used, so one that differs is missing.
     fn is_list(&self, behind: &Set) -> Result<(), String> {
-        let missing = |&&entry: &&u8| !behind[usize::from(entry)];
+        let missing = |&&entry: &&u8| behind.get(usize::from(entry)) != Some(&true);
         match self.list.iter().find(missing) {
-            None => Ok(()),
-            Some(entry) => Err(format!("entry {entry} of the list isn't behind it")),
+            Some(entry) if !self.slips(Slip::NotBehind) => {
+                Err(format!("entry {entry} of the list isn't behind it"))
+            }
+            _ => Ok(()),
         }
     }
 }

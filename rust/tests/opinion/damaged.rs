@@ -3,7 +3,8 @@
 
 use crate::common::{self, Line, Random};
 use second::random::families::{FAMILIES, FOR_REASONS};
-use second::reason::{needless, survey, Bound, Reason, Step, Writer, ROOM};
+use second::random::surveys::{Case, SURVEYS};
+use second::reason::{needless, survey, Bound, Reason, Step, Surveyor, Writer, ROOM};
 use second::sheet::{self, refusal, Record};
 use second::Panel;
 use std::collections::BTreeSet;
@@ -473,6 +474,21 @@ fn ties_at_any_gap_and_walks_over_them_are_followed() {
         tried > 10_000 && yes > 1_000 && far > 500 && over > 500,
         "{yes} of {tried} are right, {far} ties at a gap, {over} bounds over ties"
     );
+}
+
+#[test]
+fn reasons_made_for_testers_of_checks_get_the_same_answer_from_both() {
+    let (mut tried, mut yes) = (0, 0);
+    for family in &SURVEYS {
+        for number in 0..150 {
+            let Case { sheet, list, steps } = family.case(17, number);
+            if Surveyor::new().answer(&sheet, &list, &steps).0 <= 1 {
+                tried += 1;
+                yes += usize::from(agreed(&sheet, &list, &steps));
+            }
+        }
+    }
+    assert!(tried > 1_500 && yes > 500, "{yes} of {tried} are right");
 }
 
 #[test]

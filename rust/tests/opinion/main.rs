@@ -8,5 +8,6 @@ mod naive;
 mod program;
 mod random;
 mod reasons;
+mod surveyor;
 mod texts;
 mod wide;

@@ -1,6 +1,6 @@
 //! The program: one line for a sheet or a text, and batches of frames.
 
-use second::reason::{self, Lapse, Writer};
+use second::reason::{self, Lapse, Reason, Step, Surveyor, Writer};
 use second::sheet::ROOM;
 use second::text::{Reader, Slip};
 use second::Panel;
@@ -207,6 +207,128 @@ fn a_batch_of_reasons_may_have_a_lapse() {
     assert_eq!(output.stdout, [25, 0, 0, 0, 0, 0]);
 }
 
+/// The reason that is written for a sheet.
+fn reason_of(sheet: &[u8]) -> Reason {
+    let mut room = vec![0; reason::ROOM];
+    let (number, length) = Writer::new().write(sheet, &mut room);
+    assert_eq!(number, 1);
+    Reason::from(&room[..length as usize]).unwrap()
+}
+
+/// A frame of a reason that is to be checked, and the answer to it.
+fn survey_frame(sheet: &[u8], list: &[u8], steps: &[Step]) -> Vec<u8> {
+    let mut frame = frame(sheet);
+    frame.push(list.len() as u8);
+    frame.extend(list);
+    frame.extend((steps.len() as u16).to_be_bytes());
+    frame.extend(steps.iter().flat_map(Step::bytes));
+    frame
+}
+
+fn survey_answer(surveyor: Surveyor, sheet: &[u8], list: &[u8], steps: &[Step]) -> Vec<u8> {
+    let (number, place) = surveyor.answer(sheet, list, steps);
+    [&[number][..], &place.to_be_bytes()].concat()
+}
+
+#[test]
+fn a_batch_of_checks_answers_every_whole_frame_before_one_cut_short_or_too_large() {
+    let sheet = read("13");
+    let Reason { list, steps } = reason_of(&sheet);
+    let longest = steps[steps.len() - 1].clone();
+    let longest = Step {
+        first: vec![reason::Bound::entry(9); 255],
+        second: vec![reason::Bound::tie(9); 255],
+        ..longest
+    };
+    let asked = [
+        (sheet.clone(), list.clone(), steps.clone()),
+        (sheet.clone(), list.clone(), steps[1..].to_vec()),
+        (sheet.clone(), Vec::new(), Vec::new()),
+        (Vec::new(), Vec::new(), Vec::new()),
+        (vec![0; 4_096], list.clone(), steps.clone()),
+        (sheet.clone(), (0..=254).collect(), steps.clone()),
+        (sheet.clone(), list.clone(), vec![longest; 256]),
+        (sheet.clone(), list.clone(), steps.clone()),
+    ];
+    type Asked = (Vec<u8>, Vec<u8>, Vec<Step>);
+    let frame = |(sheet, list, steps): &Asked| survey_frame(sheet, list, steps);
+    let frames: Vec<u8> = asked.iter().flat_map(frame).collect();
+    let answer = |(sheet, list, steps): &Asked| survey_answer(Surveyor::new(), sheet, list, steps);
+    let answers: Vec<u8> = asked.iter().flat_map(answer).collect();
+    assert_eq!(answers[..5], [0; 5]);
+    let whole = survey_frame(&sheet, &list, &steps);
+    let too_long = survey_frame(&[0; 4_097], &list, &steps);
+    let too_many = survey_frame(&sheet, &list, &vec![steps[0].clone(); 257]);
+    for end in (0..whole.len())
+        .map(|end| &whole[..end])
+        .chain([&too_long[..], &too_many])
+    {
+        let output = run(&["batch_survey"], &[&frames, end].concat());
+        assert!(output.status.success());
+        assert!(output.stdout == answers, "{end:?}");
+    }
+}
+
+#[test]
+fn a_batch_of_checks_may_make_a_slip() {
+    let (slip, sheet) = (reason::Slip::from_name("stops").unwrap(), read("13"));
+    let Reason { list, mut steps } = reason_of(&sheet);
+    steps.push(steps[0].clone());
+    let frame = survey_frame(&sheet, &list, &steps);
+    let output = run(&["batch_survey", "stops"], &frame);
+    let answer = survey_answer(Surveyor::with(slip), &sheet, &list, &steps);
+    assert_eq!(output.stdout, answer);
+    assert_eq!(output.stdout, [0; 5]);
+}
+
+#[test]
+fn a_sheet_and_a_record_behind_it_get_one_line() {
+    let sheet = read("01");
+    let Reason { list, steps } = reason_of(&sheet);
+    let record = |list: &[u8], steps: &[Step]| {
+        let (list, steps) = (list.to_vec(), steps.to_vec());
+        Reason { list, steps }.bytes()
+    };
+    let whole = record(&list, &steps);
+    let mut wrong_ties = whole.clone();
+    wrong_ties[5] += 1;
+    let line = |sheet: &[u8], record: &[u8]| {
+        let output = run(&["survey"], &[sheet, record].concat());
+        assert!(output.status.success());
+        String::from_utf8(output.stdout).unwrap()
+    };
+    for (record, said) in [
+        (whole.clone(), "yes\n"),
+        (record(&list, &steps[1..]), "wrong at 0\n"),
+        (record(&list, &steps[..2]), "wrong at 2\n"),
+        (record(&list, &[]), "wrong at 0\n"),
+        (record(&[], &steps), "wrong at 0\n"),
+        (record(&[1, 0, 2], &steps), "refused 27 at 0\n"),
+        (record(&[0, 1, 2, 3], &steps), "refused 27 at 0\n"),
+        (record(&[0, 1, 2, 200], &steps), "refused 27 at 0\n"),
+        (wrong_ties, "no reason record\n"),
+        (whole[1..].to_vec(), "no reason record\n"),
+        ([&whole[..], &[0]].concat(), "no reason record\n"),
+        (Vec::new(), "no reason record\n"),
+    ] {
+        assert_eq!(line(&sheet, &record), said, "{record:?}");
+    }
+    // The sheet comes first, and is as long as it says; a shorter input is a shorter sheet.
+    let mut other = sheet.clone();
+    other[2] = 2;
+    assert_eq!(line(&other, &whole), "refused 11 at 0\n");
+    for (sheet, said) in [
+        (&[][..], "refused 10 at 0\n"),
+        (&[0], "refused 10 at 0\n"),
+        (&[0, 0], "refused 10 at 0\n"),
+        (&[0, 1], "refused 10 at 0\n"),
+        (&sheet[..47], "refused 10 at 0\n"),
+    ] {
+        assert_eq!(line(sheet, &[]), said, "{sheet:?}");
+    }
+    assert_eq!(line(&[0, 0], &whole), "refused 10 at 0\n");
+}
+
 #[test]
 fn a_batch_may_take_a_shortcut_and_other_words_are_not_understood() {
     let sheet = read("06");
@@ -221,6 +343,9 @@ fn a_batch_may_take_a_shortcut_and_other_words_are_not_understood() {
         &["batch_text", "once"],
         &["batch_reason", "once"],
         &["batch_reason", "early", "writes"],
+        &["batch_survey", "early"],
+        &["batch_survey", "stops", "again"],
+        &["survey", "stops"],
         &["typed", "again"],
     ] {
         let output = run(arguments, &[]);

@@ -6,14 +6,16 @@
 mod answer;
 mod reasons;
 mod report;
+mod survey;
 mod texts;
 
-use answer::{faults, Answer, FRAME};
+use answer::FRAME;
 use report::Report;
-use second::comparing::ask::{Ask, Choice};
-use second::comparing::tested::{Length, Question, Silence, Tested};
+use second::comparing::ask::Choice;
+use second::comparing::compare;
+use second::comparing::tested::{Length, Question};
 use second::random::families::{Family, FAMILIES};
-use second::{Panel, Shortcut};
+use second::Shortcut;
 use std::process::ExitCode;
 
 const USAGE: &str = "\
@@ -31,6 +33,8 @@ compare texts ..
     the same of readers of texts; by itself it says what it can be asked for
 compare reasons ..
     the same of writers of reasons, which are held to the check of reasons
+compare survey ..
+    the same of checks of reasons
 The status is 0 if nothing differs, 1 if something does, 2 if the call is wrong or the command can't
 be started, and 3 if so few or so many sheets hold that the comparison means little.";
 
@@ -59,6 +63,7 @@ fn main() -> ExitCode {
         match first.as_str() {
             "texts" => return texts::main(rest),
             "reasons" => return reasons::main(rest),
+            "survey" => return survey::main(rest),
             _ => {}
         }
     }
@@ -75,70 +80,15 @@ fn main() -> ExitCode {
         return ExitCode::SUCCESS;
     }
     let choice = Choice {
+        usage: USAGE,
         count: "--sheets",
         default: 4000,
         families: FAMILIES.iter().map(|family| family.name).collect(),
     };
-    let ask = match Ask::from(&choice, args.into_iter()) {
-        Some(ask) => ask,
-        None => {
-            eprintln!("{USAGE}");
-            return ExitCode::from(2);
-        }
-    };
-    let seed = ask.seed;
-    let sheets = ask.each().map(move |(family, number)| Sent {
+    let question = |seed, family: usize, number| Sent {
         family,
         number,
         sheet: FAMILIES[family].sheet(seed, number),
-    });
-    match Tested::start(&ask.command, sheets) {
-        Ok(tested) => ExitCode::from(compare(ask, tested)),
-        Err(error) => {
-            eprintln!("{} can't be started: {error}", ask.command[0]);
-            ExitCode::from(2)
-        }
-    }
-}
-
-/// Compares answer by answer until the sheets end or the answers do, and gives the status.
-fn compare(ask: Ask, tested: Tested<Sent>) -> u8 {
-    let mut report = Report::new(ask);
-    let ended = match silence(&tested, &mut report) {
-        Some(Silence::Ended(..)) => tested.end(),
-        _ => Ok(()),
     };
-    if let Err(fault) = ended {
-        report.bad_end(&fault);
-    }
-    report.close()
-}
-
-/// Compares and reports, and gives what there is in the end instead of an answer.
-fn silence(tested: &Tested<Sent>, report: &mut Report) -> Option<Silence> {
-    let mut panel = Panel::new();
-    while let Some(sent) = tested.sent() {
-        let expected = Answer::expected(&mut panel, &sent.sheet);
-        report.count(&sent, &expected);
-        match tested.hear() {
-            Ok(frame) => {
-                let got = Answer::from_frame(&frame);
-                let faults = faults(&sent.sheet, &expected, &got);
-                if !faults.is_empty() {
-                    report.difference(&sent, &expected, &got.words(&sent.sheet), &faults);
-                }
-            }
-            Err(silence) => {
-                report.difference(&sent, &expected, &silence.to_string(), &[]);
-                return Some(silence);
-            }
-        }
-    }
-    let last = tested.hear().err();
-    match last {
-        Some(Silence::Ended(0, _)) => {}
-        Some(Silence::Late) => report.bad_end("the command doesn't end at the end of its input"),
-        _ => report.bad_end("the command answers more than it was asked"),
-    }
-    last
+    compare(&choice, &args, question, Report::new)
 }

@@ -1,11 +1,13 @@
 //! What is printed: the differences, a line for each family, and a line for all.
 
-use crate::answer::{Answer, CLASHES, HOLDS};
+use crate::answer::{faults, Answer, CLASHES, HOLDS};
 use crate::Sent;
 use second::comparing::ask::Ask;
-use second::comparing::block;
+use second::comparing::tested::Silence;
+use second::comparing::{self, block};
 use second::random::families::FAMILIES;
 use second::random::words::{hex, words};
+use second::Panel;
 use std::ops::RangeInclusive;
 
 /// Differences that are shown whole. The others are counted.
@@ -44,6 +46,7 @@ impl Tally {
 
 pub struct Report {
     ask: Ask,
+    panel: Panel,
     families: [Tally; FAMILIES.len()],
     bad_ends: u64,
 }
@@ -52,13 +55,14 @@ impl Report {
     pub fn new(ask: Ask) -> Report {
         Report {
             ask,
+            panel: Panel::new(),
             families: [Tally::default(); FAMILIES.len()],
             bad_ends: 0,
         }
     }
 
     /// Counts a sheet by what the independent panel says of it.
-    pub fn count(&mut self, sent: &Sent, expected: &Answer) {
+    fn count(&mut self, sent: &Sent, expected: &Answer) {
         let tally = &mut self.families[sent.family];
         match expected.number {
             HOLDS => tally.hold += 1,
@@ -67,7 +71,7 @@ impl Report {
         }
     }
 
-    pub fn difference(&mut self, sent: &Sent, expected: &Answer, got: &str, faults: &[String]) {
+    fn difference(&mut self, sent: &Sent, expected: &Answer, got: &str, faults: &[String]) {
         self.families[sent.family].differ += 1;
         let differ = self.all().differ;
         if differ > SHOWN {
@@ -82,12 +86,6 @@ impl Report {
         block("words", &words(&sent.sheet));
     }
 
-    /// A difference of no sheet's, after the last answer.
-    pub fn bad_end(&mut self, what: &str) {
-        self.bad_ends += 1;
-        println!("difference {}: {what}", self.all().differ);
-    }
-
     fn all(&self) -> Tally {
         let sum = |of: fn(&Tally) -> u64| self.families.iter().map(of).sum::<u64>();
         Tally {
@@ -97,9 +95,31 @@ impl Report {
             differ: sum(|tally| tally.differ) + self.bad_ends,
         }
     }
+}
 
-    /// Prints the sums and gives the status.
-    pub fn close(&self) -> u8 {
+impl comparing::Report for Report {
+    type Sent = Sent;
+
+    fn heard(&mut self, sent: &Sent, heard: Result<&[u8], &Silence>) {
+        let expected = Answer::expected(&mut self.panel, &sent.sheet);
+        self.count(sent, &expected);
+        match heard.map(Answer::from_frame) {
+            Ok(got) => {
+                let faults = faults(&sent.sheet, &expected, &got);
+                if !faults.is_empty() {
+                    self.difference(sent, &expected, &got.words(&sent.sheet), &faults);
+                }
+            }
+            Err(silence) => self.difference(sent, &expected, &silence.to_string(), &[]),
+        }
+    }
+
+    fn bad_end(&mut self, what: &str) {
+        self.bad_ends += 1;
+        println!("difference {}: {what}", self.all().differ);
+    }
+
+    fn close(&self) -> u8 {
         println!("family        sheets    hold   clash refused  differ");
         for (family, tally) in FAMILIES.iter().zip(&self.families) {
             if tally.sheets() > 0 {

@@ -1,6 +1,7 @@
 //! An answer of a writer of reasons (number, place, and the room or a byte), and what is wrong with
 //! it. Which reason is written is free, so it is held to the rules; all else is held byte for byte.
 
+use second::random::words::rows;
 use second::reason::{needless, survey, Reason, ROOM};
 use second::{sheet, Panel};
 
@@ -95,14 +96,7 @@ impl Answer {
             let steps = steps.iter().enumerate();
             lines.extend(steps.map(|(own, step)| format!("{own}: {}", step.words())));
         }
-        let hex = |bytes: &[u8]| bytes.iter().map(|byte| format!(" {byte:02X}")).collect();
-        let record = self.record().unwrap_or(&self.rest);
-        lines.extend(
-            record
-                .chunks(32)
-                .map(hex)
-                .map(|row: String| row[1..].into()),
-        );
+        lines.extend(rows(self.record().unwrap_or(&self.rest)));
         lines
     }
 }

@@ -7,15 +7,15 @@
 mod answer;
 mod report;
 
-use answer::{faults, Answer, Expected, HEAD, WRITTEN};
+use answer::{HEAD, WRITTEN};
 use report::Report;
-use second::comparing::ask::{Ask, Choice};
-use second::comparing::tested::{Length, Question, Silence, Tested};
+use second::comparing::ask::Choice;
+use second::comparing::tested::{Length, Question};
+use second::comparing::{compare, print, usage};
 use second::random::families::{Family, FAMILIES, FOR_REASONS};
 use second::random::Random;
 use second::reason::{Lapse, ROOM};
 use second::{sheet, Panel};
-use std::io::{self, Write};
 use std::process::ExitCode;
 
 const USAGE: &str = "\
@@ -140,84 +140,18 @@ pub fn main(args: &[String]) -> ExitCode {
                 (Some(family), Ok(number), Ok(seed)) => {
                     print(&Sent::new(&mut Panel::new(), seed, family, number).frame())
                 }
-                _ => usage(),
+                _ => usage(USAGE),
             };
         }
         _ => {}
     }
     let choice = Choice {
+        usage: USAGE,
         count: "--sheets",
         default: 4000,
         families: families().map(|family| family.name).collect(),
     };
-    let ask = match Ask::from(&choice, args.iter().cloned()) {
-        Some(ask) => ask,
-        None => return usage(),
-    };
-    let (seed, mut panel) = (ask.seed, Panel::new());
-    let sheets = ask
-        .each()
-        .map(move |(family, number)| Sent::new(&mut panel, seed, family, number));
-    match Tested::start(&ask.command, sheets) {
-        Ok(tested) => ExitCode::from(compare(ask, tested)),
-        Err(error) => {
-            eprintln!("{} can't be started: {error}", ask.command[0]);
-            ExitCode::from(2)
-        }
-    }
-}
-
-fn usage() -> ExitCode {
-    eprintln!("{USAGE}");
-    ExitCode::from(2)
-}
-
-fn print(frame: &[u8]) -> ExitCode {
-    match io::stdout().write_all(frame) {
-        Ok(()) => ExitCode::SUCCESS,
-        Err(_) => ExitCode::FAILURE,
-    }
-}
-
-/// Checks answer by answer until the sheets end or the answers do, and gives the status.
-fn compare(ask: Ask, tested: Tested<Sent>) -> u8 {
-    let mut report = Report::new(ask);
-    let ended = match silence(&tested, &mut report) {
-        Some(Silence::Ended(..)) => tested.end(),
-        _ => Ok(()),
-    };
-    if let Err(fault) = ended {
-        report.bad_end(&fault);
-    }
-    report.close()
-}
-
-/// Checks and reports, and gives what there is in the end instead of an answer.
-fn silence(tested: &Tested<Sent>, report: &mut Report) -> Option<Silence> {
     let mut panel = Panel::new();
-    while let Some(sent) = tested.sent() {
-        let expected = Expected::of(&mut panel, &sent.sheet, sent.room);
-        report.count(&sent, &expected);
-        match tested.hear() {
-            Ok(frame) => {
-                let got = Answer::from_frame(&frame);
-                report.look(&got);
-                let faults = faults(&sent.sheet, &expected, &got);
-                if !faults.is_empty() {
-                    report.difference(&sent, &expected, &got.words(), &faults);
-                }
-            }
-            Err(silence) => {
-                report.difference(&sent, &expected, &[silence.to_string()], &[]);
-                return Some(silence);
-            }
-        }
-    }
-    let last = tested.hear().err();
-    match last {
-        Some(Silence::Ended(0, _)) => {}
-        Some(Silence::Late) => report.bad_end("the command doesn't end at the end of its input"),
-        _ => report.bad_end("the command answers more than it was asked"),
-    }
-    last
+    let question = move |seed, family, number| Sent::new(&mut panel, seed, family, number);
+    compare(&choice, args, question, Report::new)
 }

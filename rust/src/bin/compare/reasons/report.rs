@@ -1,11 +1,13 @@
 //! What is printed: the differences, a line for each family, what the reasons are made of, and a
 //! line for all.
 
-use super::answer::{Answer, Expected, HOLDS, TOO_SMALL, WRITTEN};
+use super::answer::{faults, Answer, Expected, HOLDS, TOO_SMALL, WRITTEN};
 use super::{families, family, Sent, COUNT};
 use second::comparing::ask::Ask;
-use second::comparing::block;
+use second::comparing::tested::Silence;
+use second::comparing::{self, block};
 use second::random::words::{hex, words};
+use second::Panel;
 
 /// Differences that are shown whole. The others are counted.
 const SHOWN: u64 = 10;
@@ -57,6 +59,7 @@ struct Made {
 
 pub struct Report {
     ask: Ask,
+    panel: Panel,
     families: [Tally; COUNT],
     made: Made,
     bad_ends: u64,
@@ -66,6 +69,7 @@ impl Report {
     pub fn new(ask: Ask) -> Report {
         Report {
             ask,
+            panel: Panel::new(),
             families: [Tally::default(); COUNT],
             made: Made::default(),
             bad_ends: 0,
@@ -73,7 +77,7 @@ impl Report {
     }
 
     /// Counts a sheet by what must be answered.
-    pub fn count(&mut self, sent: &Sent, expected: &Expected) {
+    fn count(&mut self, sent: &Sent, expected: &Expected) {
         let tally = &mut self.families[sent.family];
         match expected.number() {
             WRITTEN => tally.written += 1,
@@ -84,7 +88,7 @@ impl Report {
     }
 
     /// Looks at what an answer's reason is made of.
-    pub fn look(&mut self, got: &Answer) {
+    fn look(&mut self, got: &Answer) {
         let reason = match got.reason() {
             Some(reason) => reason,
             None => return,
@@ -101,13 +105,7 @@ impl Report {
         made.bytes = made.bytes.max(reason.bytes().len());
     }
 
-    pub fn difference(
-        &mut self,
-        sent: &Sent,
-        expected: &Expected,
-        got: &[String],
-        faults: &[String],
-    ) {
+    fn difference(&mut self, sent: &Sent, expected: &Expected, got: &[String], faults: &[String]) {
         self.families[sent.family].differ += 1;
         let differ = self.all().differ;
         if differ > SHOWN {
@@ -126,12 +124,6 @@ impl Report {
         block("words", &words(&sent.sheet));
     }
 
-    /// A difference of no sheet's, after the last answer.
-    pub fn bad_end(&mut self, what: &str) {
-        self.bad_ends += 1;
-        println!("difference {}: {what}", self.all().differ);
-    }
-
     fn all(&self) -> Tally {
         let sum = |of: fn(&Tally) -> u64| self.families.iter().map(of).sum::<u64>();
         Tally {
@@ -143,8 +135,40 @@ impl Report {
         }
     }
 
-    /// Prints the sums and gives the status.
-    pub fn close(&self) -> u8 {
+    fn is_lopsided(&self) -> bool {
+        let all = self.all();
+        let under = |count: u64, share: u64| 100 * count < share * all.sheets();
+        let mut rare = [all.small, all.hold, all.refused]
+            .into_iter()
+            .chain(self.made.kinds);
+        under(all.written, WRITTEN_SHARE) || rare.any(|count| under(count, SHARE))
+    }
+}
+
+impl comparing::Report for Report {
+    type Sent = Sent;
+
+    fn heard(&mut self, sent: &Sent, heard: Result<&[u8], &Silence>) {
+        let expected = Expected::of(&mut self.panel, &sent.sheet, sent.room);
+        self.count(sent, &expected);
+        match heard.map(Answer::from_frame) {
+            Ok(got) => {
+                self.look(&got);
+                let faults = faults(&sent.sheet, &expected, &got);
+                if !faults.is_empty() {
+                    self.difference(sent, &expected, &got.words(), &faults);
+                }
+            }
+            Err(silence) => self.difference(sent, &expected, &[silence.to_string()], &[]),
+        }
+    }
+
+    fn bad_end(&mut self, what: &str) {
+        self.bad_ends += 1;
+        println!("difference {}: {what}", self.all().differ);
+    }
+
+    fn close(&self) -> u8 {
         println!("family        sheets written      25      26 refused  differ");
         for (family, tally) in families().zip(&self.families) {
             if tally.sheets() > 0 {
@@ -189,14 +213,5 @@ impl Report {
             return 3;
         }
         0
-    }
-
-    fn is_lopsided(&self) -> bool {
-        let all = self.all();
-        let under = |count: u64, share: u64| 100 * count < share * all.sheets();
-        let mut rare = [all.small, all.hold, all.refused]
-            .into_iter()
-            .chain(self.made.kinds);
-        under(all.written, WRITTEN_SHARE) || rare.any(|count| under(count, SHARE))
     }
 }

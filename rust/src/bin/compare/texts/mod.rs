@@ -7,13 +7,13 @@ mod report;
 mod shown;
 
 use report::Report;
-use second::comparing::ask::{Ask, Choice};
-use second::comparing::tested::{Length, Question, Silence, Tested};
+use second::comparing::ask::Choice;
+use second::comparing::tested::{Length, Question};
+use second::comparing::{compare, print, usage};
 use second::random::texts::{TextFamily, TEXTS};
 use second::random::Random;
 use second::sheet;
 use second::text::{Reader, Slip, ROOM};
-use std::io::{self, Write};
 use std::process::ExitCode;
 
 const USAGE: &str = "\
@@ -102,77 +102,16 @@ pub fn main(args: &[String]) -> ExitCode {
             let family = TEXTS.iter().find(|family| family.name == name);
             return match (family, number.parse(), seed.parse()) {
                 (Some(family), Ok(number), Ok(seed)) => print(&family.text(seed, number)),
-                _ => usage(),
+                _ => usage(USAGE),
             };
         }
         _ => {}
     }
     let choice = Choice {
+        usage: USAGE,
         count: "--texts",
         default: 4000,
         families: TEXTS.iter().map(|family| family.name).collect(),
     };
-    let ask = match Ask::from(&choice, args.iter().cloned()) {
-        Some(ask) => ask,
-        None => return usage(),
-    };
-    let seed = ask.seed;
-    let texts = ask
-        .each()
-        .map(move |(family, number)| Sent::new(seed, family, number));
-    match Tested::start(&ask.command, texts) {
-        Ok(tested) => ExitCode::from(compare(ask, tested)),
-        Err(error) => {
-            eprintln!("{} can't be started: {error}", ask.command[0]);
-            ExitCode::from(2)
-        }
-    }
-}
-
-fn usage() -> ExitCode {
-    eprintln!("{USAGE}");
-    ExitCode::from(2)
-}
-
-fn print(text: &[u8]) -> ExitCode {
-    match io::stdout().write_all(text) {
-        Ok(()) => ExitCode::SUCCESS,
-        Err(_) => ExitCode::FAILURE,
-    }
-}
-
-/// Compares answer by answer until the texts end or the answers do, and gives the status.
-fn compare(ask: Ask, tested: Tested<Sent>) -> u8 {
-    let mut report = Report::new(ask);
-    let ended = match silence(&tested, &mut report) {
-        Some(Silence::Ended(..)) => tested.end(),
-        _ => Ok(()),
-    };
-    if let Err(fault) = ended {
-        report.bad_end(&fault);
-    }
-    report.close()
-}
-
-/// Compares and reports, and gives what there is in the end instead of an answer.
-fn silence(tested: &Tested<Sent>, report: &mut Report) -> Option<Silence> {
-    while let Some(sent) = tested.sent() {
-        let expected = sent.expected();
-        report.count(&sent, &expected);
-        match tested.hear() {
-            Ok(got) if got == expected => {}
-            Ok(got) => report.difference(&sent, &expected, Ok(&got)),
-            Err(silence) => {
-                report.difference(&sent, &expected, Err(&silence));
-                return Some(silence);
-            }
-        }
-    }
-    let last = tested.hear().err();
-    match last {
-        Some(Silence::Ended(0, _)) => {}
-        Some(Silence::Late) => report.bad_end("the command doesn't end at the end of its input"),
-        _ => report.bad_end("the command answers more than it was asked"),
-    }
-    last
+    compare(&choice, args, Sent::new, Report::new)
 }

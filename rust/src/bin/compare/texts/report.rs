@@ -2,8 +2,8 @@
 
 use super::{shown, Sent};
 use second::comparing::ask::Ask;
-use second::comparing::block;
 use second::comparing::tested::Silence;
+use second::comparing::{self, block};
 use second::random::texts::TEXTS;
 
 /// Differences that are shown whole. The others are counted.
@@ -52,13 +52,13 @@ impl Report {
     }
 
     /// Counts a text by what the independent reader says of it.
-    pub fn count(&mut self, sent: &Sent, expected: &[u8]) {
+    fn count(&mut self, sent: &Sent, expected: &[u8]) {
         let answer = ANSWERS.iter().position(|&number| number == expected[0]);
         let answer = answer.expect("the independent reader gives no other number");
         self.families[sent.family].answers[answer] += 1;
     }
 
-    pub fn difference(&mut self, sent: &Sent, expected: &[u8], got: Result<&[u8], &Silence>) {
+    fn difference(&mut self, sent: &Sent, expected: &[u8], got: Result<&[u8], &Silence>) {
         self.families[sent.family].differ += 1;
         let differ = self.all().differ;
         if differ > SHOWN {
@@ -83,12 +83,6 @@ impl Report {
         block("words", &shown::at(&sent.text, expected));
     }
 
-    /// A difference of no text's, after the last answer.
-    pub fn bad_end(&mut self, what: &str) {
-        self.bad_ends += 1;
-        println!("difference {}: {what}", self.all().differ);
-    }
-
     fn all(&self) -> Tally {
         let mut all = Tally::default();
         for tally in &self.families {
@@ -100,9 +94,25 @@ impl Report {
         all.differ += self.bad_ends;
         all
     }
+}
 
-    /// Prints the sums and gives the status.
-    pub fn close(&self) -> u8 {
+impl comparing::Report for Report {
+    type Sent = Sent;
+
+    fn heard(&mut self, sent: &Sent, heard: Result<&[u8], &Silence>) {
+        let expected = sent.expected();
+        self.count(sent, &expected);
+        if heard.map_or(true, |got| got != expected) {
+            self.difference(sent, &expected, heard);
+        }
+    }
+
+    fn bad_end(&mut self, what: &str) {
+        self.bad_ends += 1;
+        println!("difference {}: {what}", self.all().differ);
+    }
+
+    fn close(&self) -> u8 {
         println!("family         texts    read      20      21      22      23      24  differ");
         for (family, tally) in TEXTS.iter().zip(&self.families) {
             if tally.texts() > 0 {

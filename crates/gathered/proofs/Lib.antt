@@ -1,0 +1,4 @@
+pub mod GatherKinds
+pub mod GatherReads
+pub mod Standing
+pub mod Gathering

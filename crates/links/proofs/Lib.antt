@@ -1,0 +1,5 @@
+pub mod Words
+pub mod Paths
+pub mod Climbing
+pub mod Nearing
+pub mod Writing

@@ -1,0 +1,7 @@
+mod Same
+pub mod Recites
+mod First
+mod Reading
+mod Sized
+mod Rows
+pub mod Counting

@@ -1,0 +1,2 @@
+pub mod Recited
+pub mod Reading

@@ -1,0 +1,7 @@
+mod Tests
+mod Gaps
+mod Walks
+mod Groups
+mod Inputs
+mod Forms
+mod Rules

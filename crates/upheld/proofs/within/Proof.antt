@@ -1,0 +1,12 @@
+-- `upheld::within` meets its contract (proofs/Gaps.antt).
+-- Assumes nothing.
+use borrow.Author.Needs.{needs}
+use Rattle.upheld.proofs.Gaps.{within-told}
+use Rattle.upheld.proofs.within.Statement.{statement}
+use Rattle.upheld.proofs.within.Tie as tie
+
+returns : tie.Need-returns
+returns c = within-told (c .args .c) (search needs)
+
+pub within-spec : {M : Type 1} → statement M
+within-spec = tie.close (tie.spec (λ c. search needs) returns)

@@ -1,0 +1,3 @@
+pub mod Worth
+mod Read
+pub mod Panel
