@@ -3,14 +3,13 @@
 // It rests on what a step is built on (basis), and promises the rules' own "behind".
 ghost use mathlib.Core.Path.{_≡_};
 ghost use mathlib.Core.Bool.{true};
-ghost use Prim.Native.Nat.{ℕ, _+_, _≤_, _<_};
+ghost use Prim.Native.Nat.{_+_, _≤_, _<_};
 ghost use lib.ListN.{length, getD, set};
-ghost use Rattle.order.specs.First.{Set};
 ghost use Rattle.sheet.specs.Decode.{sheetOf};
 ghost use Rattle.stated.specs.Said.{stepsOf, Formed};
 ghost use Rattle.upheld.specs.Ruled.{Asked};
 ghost use Rattle.basis.specs.Basis.{OwnMarked};
-ghost use Rattle.gathered.specs.Gathers.{Upright, Standing, Through, Gathers};
+ghost use Rattle.gathered.specs.Gathers.{Standing, Through, Gathers};
 use stated::Step;
 
 // Marks the entries behind step `at`, and the steps that are walked for them.
@@ -24,7 +23,7 @@ pub fn gather(
     walked: &mut [bool],
 )
     requires { ⌜ Asked (now sheet) (now legs) (now links) × Standing (now sheet) (now steps) (now legs) (now links) at × (length (now entries) ≡ 256) × (length (now walked) ≡ 256) ⌝ }
-    ensures { λ _. ⌜ ((listed : Set) (last : ℕ) → Upright (sheetOf (now (sheet .entry))) listed (now (steps .entry)) last (now (legs .entry)) (now (links .entry)) → at ≤ last → Through (sheetOf (now (sheet .entry))) (stepsOf (now (steps .entry))) (at + 1) (now (entries .entry)) (now (walked .entry)) → Gathers (sheetOf (now (sheet .entry))) (stepsOf (now (steps .entry))) at (now (entries .entry)) (now (walked .entry)) (now (entries .exit)) (now (walked .exit))) ⌝ }
+    ensures { λ _. ⌜ (Through (sheetOf (now (sheet .entry))) (stepsOf (now (steps .entry))) (at + 1) (now (entries .entry)) (now (walked .entry)) → Gathers (sheetOf (now (sheet .entry))) (stepsOf (now (steps .entry))) at (now (entries .entry)) (now (walked .entry)) (now (entries .exit)) (now (walked .exit))) ⌝ }
 {
     if walked[at] {
         return;

@@ -45,7 +45,7 @@ fn check_few(sheet: &[u8], list: &[u8], bytes: &[u8], count: usize) -> Survey
     ensures { λ r. ⌜ Recited (now (sheet .entry)) (now (list .entry)) (now (bytes .entry)) (numberOf r) (placeOf r) ⌝ }
 {
     let steps = first_few(bytes);
-    surveyor::check_first(sheet, list, &steps, count)
+    surveyor::check(sheet, list, &steps[..count])
 }
 
 fn check_many(sheet: &[u8], list: &[u8], bytes: &[u8], count: usize) -> Survey
@@ -53,7 +53,7 @@ fn check_many(sheet: &[u8], list: &[u8], bytes: &[u8], count: usize) -> Survey
     ensures { λ r. ⌜ Recited (now (sheet .entry)) (now (list .entry)) (now (bytes .entry)) (numberOf r) (placeOf r) ⌝ }
 {
     let steps = first_many(bytes);
-    surveyor::check_first(sheet, list, &steps, count)
+    surveyor::check(sheet, list, &steps[..count])
 }
 
 // The first steps that the bytes say, and blank ones behind them.

@@ -4,7 +4,7 @@
 ghost use mathlib.Core.Path.{_≡_};
 ghost use mathlib.Core.Bool.{false};
 ghost use Prim.Native.Nat.{_≤_};
-ghost use lib.ListN.{length, replicate, take};
+ghost use lib.ListN.{length, replicate};
 ghost use Rattle.order.specs.First.{marked, Agree};
 ghost use Rattle.sheet.specs.Decode.{sheetOf};
 ghost use Rattle.meaning.specs.Decides.{Decides};
@@ -65,14 +65,6 @@ pub fn check(sheet: &[u8], list: &[u8], steps: &[Step]) -> Survey
         Ready::NoList => Survey::NoList,
         Ready::Fine => go_through(sheet, &listed, &mut legs, steps),
     }
-}
-
-// The first `count` of the steps alone.
-pub fn check_first(sheet: &[u8], list: &[u8], steps: &[Step], count: usize) -> Survey
-    requires { ⌜ count ≤ length (now steps) ⌝ }
-    ensures { λ r. ⌜ Surveyed (now (sheet .entry)) (now (list .entry)) (take count (now (steps .entry))) (numberOf r) (placeOf r) ⌝ }
-{
-    check(sheet, list, &steps[..count])
 }
 
 // Marks the entries of the list and lays the legs of terms and entries, unless the sheet is refused or the list is none.

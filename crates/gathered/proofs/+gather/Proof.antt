@@ -103,7 +103,7 @@ module _ (t : ℕ) where
       omega (arith, number-fits (p .1 .upright) (p .1 .among), p .3)
 
   returns : lts.Need-returns (calls t) (at-t t) gather.Post Inv-loop μ-loop
-  returns c = λ listed last u l h. already (c .if1 .taken) h
+  returns c = λ h. already (c .if1 .taken) h
 
   step-at-requires : lts.Need-step-at-requires (calls t) (at-t t) gather.Post Inv-loop μ-loop
   step-at-requires c κs = let p = c .before .before .before .before .before .before .before .pre .1 .1 in there (p .upright) (p .among)
@@ -173,7 +173,7 @@ module _ (t : ℕ) where
         let this = c .before .before .before .before .before .before .before in
         let l = next-earlier this in
         let p = c .before .before .before .before .before .before .before .before .before .before .loop .inv .3 h in
-        let g = c .before .before .before .before .gather .ensures (q .listed) (q .last) (q .upright) (omega (arith, l, q .among)) in
+        let g = c .before .before .before .before .gather .ensures in
         one-more _ _ _ p (this .tie-at .ensures) l (rests-said (q .upright) (q .among) (s .step-at .ensures) (next this))
         (g (fewer (omega (arith, l)) (p .through))),
   )
@@ -189,10 +189,11 @@ module _ (t : ℕ) where
       c .before .loop .inv .2 ∙ sym (start s .pre .1 .3)
 
   returns-2 : lts.Need-returns-2 (calls t) (at-t t) gather.Post Inv-loop μ-loop
-  returns-2 c = λ listed last u l h.
+  returns-2 c = λ h.
       let s = c .before .before .before .before .before .before .before .before .before .before .before .before in
-      let is = said u l (s .step-at .ensures) in
-      let fits : start s .args .at < length (start s .args .walked .now) = omega (arith, number-fits u l, start s .pre .1 .3) in
+      let q = start s .pre .1 .1 in
+      let is = said (q .upright) (q .among) (s .step-at .ensures) in
+      let fits : start s .args .at < length (start s .args .walked .now) = omega (arith, number-fits (q .upright) (q .among), start s .pre .1 .3) in
       let e = c .before .before .before .before .before .before .before .before .before .enter .ensures in
       done _ _ _ is fits (e .0) (e .1) (rests-listed (c .before .before .before)) (c .loop-test .left)
       (c .before .loop .inv .3 (begun _ _ _ is fits (e .0) (e .1) h))

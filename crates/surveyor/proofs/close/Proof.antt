@@ -38,7 +38,7 @@ same-requires : tie.Need-same-requires
 same-requires c κs =
     let counted = counted-of (gathered-of c) in
     let pre = start-of counted .pre in
-    let G = gathered-of c .gather .ensures _ _ (pre .upright) (omega arith) (none-through (all-blank false 256)) in
+    let G = gathered-of c .gather .ensures (none-through (all-blank false 256)) in
     let L = pre .asked .well-formed .entries in
     let k = c .count-entries .ensures .0 in
     (omega (arith, pre .size), omega (arith, G .sizes .0))
@@ -51,7 +51,7 @@ returns-2 c =
     let read = c .before .before in
     let counted = counted-of (gathered-of read) in
     let U = start-of counted .pre .upright in
-    closes-last U (gathered-of read .gather .ensures _ _ U (omega arith) (none-through (all-blank false 256))) (all-blank false 256)
+    closes-last U (gathered-of read .gather .ensures (none-through (all-blank false 256))) (all-blank false 256)
     (omega (arith, counted .count .ensures, gathered-of read .before .before .before .if1 .left))
     (told-agree (c .before .same .result) _ _ _ (c .before .same .ensures) (read .count-entries .ensures .0) (c .if2 .taken))
 
@@ -59,7 +59,7 @@ returns-3 : tie.Need-returns-3
 returns-3 c =
     let read = c .before .before in
     let U = start-of (counted-of (gathered-of read)) .pre .upright in
-    closes-otherwise U (gathered-of read .gather .ensures _ _ U (omega arith) (none-through (all-blank false 256))) (all-blank false 256)
+    closes-otherwise U (gathered-of read .gather .ensures (none-through (all-blank false 256))) (all-blank false 256)
     (told-otherwise (c .before .same .result) _ _ _ (c .before .same .ensures) (read .count-entries .ensures .0) (c .if2 .left))
 
 pub close-spec : {M : Type 1} → statement M

@@ -74,7 +74,7 @@ abbrev pub r·0 : Kinds.RK 1
 r·0 = Array.rArr (Array.eStruct StepT.the-type StepL.the-laws StepL.the-copy) (Array.eStruct-laws StepT.the-type StepL.the-laws StepL.the-copy StepL.the-plain) 8
 
 abbrev pub ps·1 : List.List (Kinds.PK 3)
-ps·1 = List._∷_ (ShrSlice.pShrS (Referent.rtF (Referent.fInt Syntax.w8)) 0 tt) (List._∷_ (ShrSlice.pShrS (Referent.rtF (Referent.fInt Syntax.w8)) 1 tt) (List._∷_ (ShrSlice.pShrS (Struct″.row StepT.the-type) 2 tt) (List._∷_ (Num.pNum Syntax.w64) List.[])))
+ps·1 = List._∷_ (ShrSlice.pShrS (Referent.rtF (Referent.fInt Syntax.w8)) 0 tt) (List._∷_ (ShrSlice.pShrS (Referent.rtF (Referent.fInt Syntax.w8)) 1 tt) (List._∷_ (ShrSlice.pShrS (Struct″.row StepT.the-type) 2 tt) List.[]))
 
 abbrev pub r·1 : Kinds.RK 3
 r·1 = Value.rVal record { ty = Declared.row Survey.the-type; one = Path'.refl; val = Laws'.val Survey.the-type Laws.the-laws; tells = Laws'.tells Survey.the-type Laws.the-laws; still = Laws'.still Survey.the-type Laws.the-copy Exit.yes; row = Rows'.whole (Declared.row Survey.the-type); rd = λ x. x; mk = λ x. x } λ M 𝓤 H A W. record { copies = Laws'.copy Survey.the-type Laws.the-copy 𝓤 H A W; lawful = Laws'.lawful Survey.the-type Laws.the-laws 𝓤 H A W tt; makes = Laws'.makes Survey.the-type Laws.the-plain 𝓤 H A; in-mem = Local.mem-whole 𝓤 H A W (Declared.row Survey.the-type); of-mem = Local.whole-mem 𝓤 H A W (Declared.row Survey.the-type) }
@@ -92,10 +92,10 @@ abbrev b2 : Syntax.Body
 b2 = Syntax.assign (Syntax.place 7 List.[]) (Syntax.addrOf (Syntax.place 5 List.[]))
 
 abbrev b3 : Syntax.Body
-b3 = Syntax.assign (Syntax.place 8 List.[]) (Syntax.aggregate (List._∷_ (Syntax.copy (Syntax.place 7 List.[])) (List._∷_ (Syntax.int Syntax.w64 8) List.[])))
+b3 = Syntax.assign (Syntax.place 8 List.[]) (Syntax.aggregate (List._∷_ (Syntax.copy (Syntax.place 7 List.[])) (List._∷_ (Syntax.copy (Syntax.place 4 List.[])) List.[])))
 
 abbrev b4 : Syntax.Body
-b4 = Syntax.call "surveyor::check_first" (List._∷_ (Syntax.copy (Syntax.place 1 List.[])) (List._∷_ (Syntax.copy (Syntax.place 2 List.[])) (List._∷_ (Syntax.copy (Syntax.place 8 List.[])) (List._∷_ (Syntax.copy (Syntax.place 4 List.[])) List.[])))) (Syntax.place 0 List.[])
+b4 = Syntax.call "surveyor::check" (List._∷_ (Syntax.copy (Syntax.place 1 List.[])) (List._∷_ (Syntax.copy (Syntax.place 2 List.[])) (List._∷_ (Syntax.copy (Syntax.place 8 List.[])) List.[]))) (Syntax.place 0 List.[])
 
 abbrev b5 : Syntax.Body
 b5 = Syntax.return
@@ -137,16 +137,16 @@ abbrev pub t4 : List.List Row.Entry
 t4 = List._∷_ (0, Rows'.any-gone (Syntax.tyEnum (List._∷_ 115 (List._∷_ 117 (List._∷_ 114 (List._∷_ 118 (List._∷_ 101 (List._∷_ 121 (List._∷_ 111 (List._∷_ 114 (List._∷_ 58 (List._∷_ 58 (List._∷_ 83 (List._∷_ 117 (List._∷_ 114 (List._∷_ 118 (List._∷_ 101 (List._∷_ 121 List.[])))))))))))))))) (Syntax.ttcons (Syntax.tcons (Syntax.tyEnum (List._∷_ 114 (List._∷_ 101 (List._∷_ 102 (List._∷_ 117 (List._∷_ 115 (List._∷_ 97 (List._∷_ 108 (List._∷_ 58 (List._∷_ 58 (List._∷_ 82 (List._∷_ 101 (List._∷_ 102 (List._∷_ 117 (List._∷_ 115 (List._∷_ 97 (List._∷_ 108 List.[])))))))))))))))) (Syntax.ttcons Syntax.tnil (Syntax.ttcons Syntax.tnil (Syntax.ttcons Syntax.tnil (Syntax.ttcons (Syntax.tcons (Syntax.tyStruct (List._∷_ 115 (List._∷_ 104 (List._∷_ 101 (List._∷_ 101 (List._∷_ 116 (List._∷_ 58 (List._∷_ 58 (List._∷_ 84 (List._∷_ 101 (List._∷_ 114 (List._∷_ 109 (List._∷_ 78 (List._∷_ 117 (List._∷_ 109 (List._∷_ 98 (List._∷_ 101 (List._∷_ 114 List.[]))))))))))))))))) (Syntax.tcons (Syntax.tyInt Syntax.w8) Syntax.tnil)) Syntax.tnil) (Syntax.ttcons (Syntax.tcons (Syntax.tyStruct (List._∷_ 115 (List._∷_ 104 (List._∷_ 101 (List._∷_ 101 (List._∷_ 116 (List._∷_ 58 (List._∷_ 58 (List._∷_ 69 (List._∷_ 110 (List._∷_ 116 (List._∷_ 114 (List._∷_ 121 (List._∷_ 78 (List._∷_ 117 (List._∷_ 109 (List._∷_ 98 (List._∷_ 101 (List._∷_ 114 List.[])))))))))))))))))) (Syntax.tcons (Syntax.tyInt Syntax.w8) Syntax.tnil)) Syntax.tnil) (Syntax.ttcons Syntax.tnil Syntax.ttnil))))))) Syntax.tnil) (Syntax.ttcons Syntax.tnil (Syntax.ttcons Syntax.tnil (Syntax.ttcons (Syntax.tcons (Syntax.tyInt Syntax.w8) Syntax.tnil) Syntax.ttnil)))))) (List._∷_ (1, Rows'.sslice (Referent.rtF (Referent.fInt Syntax.w8)) (Syntax.tyRef (Syntax.named 0) Syntax.imm (Syntax.tyInt Syntax.w8)) 0) (List._∷_ (2, Rows'.sslice (Referent.rtF (Referent.fInt Syntax.w8)) (Syntax.tyRef (Syntax.named 1) Syntax.imm (Syntax.tyInt Syntax.w8)) 1) (List._∷_ (3, Rows'.sslice (Referent.rtF (Referent.fInt Syntax.w8)) (Syntax.tyRef (Syntax.named 2) Syntax.imm (Syntax.tyInt Syntax.w8)) 2) (List._∷_ (4, Rows'.sc-here (Row.sInt Syntax.w64)) (List._∷_ (5, Rows.arrF (Struct″.row StepT.the-type) 8 0) (List._∷_ (6, Rows'.any-gone (Syntax.tyArray (StepL.mir) 8)) (List._∷_ (7, Rows'.any-gone (Syntax.tyRef Syntax.erased Syntax.imm (Syntax.tyArray (Memory″.pointee ((Struct″.row StepT.the-type) .written)) 8))) (List._∷_ (8, Rows'.any-gone (Syntax.tyStruct (List._∷_ 38 (List._∷_ 91 (List._∷_ 93 List.[]))) (Syntax.tcons (Syntax.tyRef Syntax.erased Syntax.imm (Memory″.pointee ((Struct″.row StepT.the-type) .written))) (Syntax.tcons (Syntax.tyInt Syntax.w64) Syntax.tnil)))) List.[]))))))))
 
 abbrev pub t5 : List.List Row.Entry
-t5 = List._∷_ (0, Rows'.any-gone (Syntax.tyEnum (List._∷_ 115 (List._∷_ 117 (List._∷_ 114 (List._∷_ 118 (List._∷_ 101 (List._∷_ 121 (List._∷_ 111 (List._∷_ 114 (List._∷_ 58 (List._∷_ 58 (List._∷_ 83 (List._∷_ 117 (List._∷_ 114 (List._∷_ 118 (List._∷_ 101 (List._∷_ 121 List.[])))))))))))))))) (Syntax.ttcons (Syntax.tcons (Syntax.tyEnum (List._∷_ 114 (List._∷_ 101 (List._∷_ 102 (List._∷_ 117 (List._∷_ 115 (List._∷_ 97 (List._∷_ 108 (List._∷_ 58 (List._∷_ 58 (List._∷_ 82 (List._∷_ 101 (List._∷_ 102 (List._∷_ 117 (List._∷_ 115 (List._∷_ 97 (List._∷_ 108 List.[])))))))))))))))) (Syntax.ttcons Syntax.tnil (Syntax.ttcons Syntax.tnil (Syntax.ttcons Syntax.tnil (Syntax.ttcons (Syntax.tcons (Syntax.tyStruct (List._∷_ 115 (List._∷_ 104 (List._∷_ 101 (List._∷_ 101 (List._∷_ 116 (List._∷_ 58 (List._∷_ 58 (List._∷_ 84 (List._∷_ 101 (List._∷_ 114 (List._∷_ 109 (List._∷_ 78 (List._∷_ 117 (List._∷_ 109 (List._∷_ 98 (List._∷_ 101 (List._∷_ 114 List.[]))))))))))))))))) (Syntax.tcons (Syntax.tyInt Syntax.w8) Syntax.tnil)) Syntax.tnil) (Syntax.ttcons (Syntax.tcons (Syntax.tyStruct (List._∷_ 115 (List._∷_ 104 (List._∷_ 101 (List._∷_ 101 (List._∷_ 116 (List._∷_ 58 (List._∷_ 58 (List._∷_ 69 (List._∷_ 110 (List._∷_ 116 (List._∷_ 114 (List._∷_ 121 (List._∷_ 78 (List._∷_ 117 (List._∷_ 109 (List._∷_ 98 (List._∷_ 101 (List._∷_ 114 List.[])))))))))))))))))) (Syntax.tcons (Syntax.tyInt Syntax.w8) Syntax.tnil)) Syntax.tnil) (Syntax.ttcons Syntax.tnil Syntax.ttnil))))))) Syntax.tnil) (Syntax.ttcons Syntax.tnil (Syntax.ttcons Syntax.tnil (Syntax.ttcons (Syntax.tcons (Syntax.tyInt Syntax.w8) Syntax.tnil) Syntax.ttnil)))))) (List._∷_ (1, Rows'.sslice (Referent.rtF (Referent.fInt Syntax.w8)) (Syntax.tyRef (Syntax.named 0) Syntax.imm (Syntax.tyInt Syntax.w8)) 0) (List._∷_ (2, Rows'.sslice (Referent.rtF (Referent.fInt Syntax.w8)) (Syntax.tyRef (Syntax.named 1) Syntax.imm (Syntax.tyInt Syntax.w8)) 1) (List._∷_ (3, Rows'.sslice (Referent.rtF (Referent.fInt Syntax.w8)) (Syntax.tyRef (Syntax.named 2) Syntax.imm (Syntax.tyInt Syntax.w8)) 2) (List._∷_ (4, Rows'.sc-here (Row.sInt Syntax.w64)) (List._∷_ (5, Rows.arr-shr (Struct″.row StepT.the-type) 8 3) (List._∷_ (6, Rows'.any-gone (Syntax.tyArray (StepL.mir) 8)) (List._∷_ (7, Relend.ssptr (Struct″.row StepT.the-type) (Syntax.tyRef Syntax.erased Syntax.imm (Syntax.tyArray (Memory″.pointee ((Struct″.row StepT.the-type) .written)) 8)) 3) (List._∷_ (8, Rows'.any-gone (Syntax.tyStruct (List._∷_ 38 (List._∷_ 91 (List._∷_ 93 List.[]))) (Syntax.tcons (Syntax.tyRef Syntax.erased Syntax.imm (Memory″.pointee ((Struct″.row StepT.the-type) .written))) (Syntax.tcons (Syntax.tyInt Syntax.w64) Syntax.tnil)))) List.[]))))))))
+t5 = List._∷_ (0, Rows'.any-gone (Syntax.tyEnum (List._∷_ 115 (List._∷_ 117 (List._∷_ 114 (List._∷_ 118 (List._∷_ 101 (List._∷_ 121 (List._∷_ 111 (List._∷_ 114 (List._∷_ 58 (List._∷_ 58 (List._∷_ 83 (List._∷_ 117 (List._∷_ 114 (List._∷_ 118 (List._∷_ 101 (List._∷_ 121 List.[])))))))))))))))) (Syntax.ttcons (Syntax.tcons (Syntax.tyEnum (List._∷_ 114 (List._∷_ 101 (List._∷_ 102 (List._∷_ 117 (List._∷_ 115 (List._∷_ 97 (List._∷_ 108 (List._∷_ 58 (List._∷_ 58 (List._∷_ 82 (List._∷_ 101 (List._∷_ 102 (List._∷_ 117 (List._∷_ 115 (List._∷_ 97 (List._∷_ 108 List.[])))))))))))))))) (Syntax.ttcons Syntax.tnil (Syntax.ttcons Syntax.tnil (Syntax.ttcons Syntax.tnil (Syntax.ttcons (Syntax.tcons (Syntax.tyStruct (List._∷_ 115 (List._∷_ 104 (List._∷_ 101 (List._∷_ 101 (List._∷_ 116 (List._∷_ 58 (List._∷_ 58 (List._∷_ 84 (List._∷_ 101 (List._∷_ 114 (List._∷_ 109 (List._∷_ 78 (List._∷_ 117 (List._∷_ 109 (List._∷_ 98 (List._∷_ 101 (List._∷_ 114 List.[]))))))))))))))))) (Syntax.tcons (Syntax.tyInt Syntax.w8) Syntax.tnil)) Syntax.tnil) (Syntax.ttcons (Syntax.tcons (Syntax.tyStruct (List._∷_ 115 (List._∷_ 104 (List._∷_ 101 (List._∷_ 101 (List._∷_ 116 (List._∷_ 58 (List._∷_ 58 (List._∷_ 69 (List._∷_ 110 (List._∷_ 116 (List._∷_ 114 (List._∷_ 121 (List._∷_ 78 (List._∷_ 117 (List._∷_ 109 (List._∷_ 98 (List._∷_ 101 (List._∷_ 114 List.[])))))))))))))))))) (Syntax.tcons (Syntax.tyInt Syntax.w8) Syntax.tnil)) Syntax.tnil) (Syntax.ttcons Syntax.tnil Syntax.ttnil))))))) Syntax.tnil) (Syntax.ttcons Syntax.tnil (Syntax.ttcons Syntax.tnil (Syntax.ttcons (Syntax.tcons (Syntax.tyInt Syntax.w8) Syntax.tnil) Syntax.ttnil)))))) (List._∷_ (1, Rows'.sslice (Referent.rtF (Referent.fInt Syntax.w8)) (Syntax.tyRef (Syntax.named 0) Syntax.imm (Syntax.tyInt Syntax.w8)) 0) (List._∷_ (2, Rows'.sslice (Referent.rtF (Referent.fInt Syntax.w8)) (Syntax.tyRef (Syntax.named 1) Syntax.imm (Syntax.tyInt Syntax.w8)) 1) (List._∷_ (3, Rows'.sslice (Referent.rtF (Referent.fInt Syntax.w8)) (Syntax.tyRef (Syntax.named 2) Syntax.imm (Syntax.tyInt Syntax.w8)) 2) (List._∷_ (4, Rows'.sc-here (Row.sInt Syntax.w64)) (List._∷_ (5, Rows.arr-shrP (Struct″.row StepT.the-type) 8 3) (List._∷_ (6, Rows'.any-gone (Syntax.tyArray (StepL.mir) 8)) (List._∷_ (7, Relend.ssptr (Struct″.row StepT.the-type) (Syntax.tyRef Syntax.erased Syntax.imm (Syntax.tyArray (Memory″.pointee ((Struct″.row StepT.the-type) .written)) 8)) 3) (List._∷_ (8, Rows'.any-gone (Syntax.tyStruct (List._∷_ 38 (List._∷_ 91 (List._∷_ 93 List.[]))) (Syntax.tcons (Syntax.tyRef Syntax.erased Syntax.imm (Memory″.pointee ((Struct″.row StepT.the-type) .written))) (Syntax.tcons (Syntax.tyInt Syntax.w64) Syntax.tnil)))) List.[]))))))))
 
 abbrev pub t6 : List.List Row.Entry
-t6 = List._∷_ (0, Rows'.any-gone (Syntax.tyEnum (List._∷_ 115 (List._∷_ 117 (List._∷_ 114 (List._∷_ 118 (List._∷_ 101 (List._∷_ 121 (List._∷_ 111 (List._∷_ 114 (List._∷_ 58 (List._∷_ 58 (List._∷_ 83 (List._∷_ 117 (List._∷_ 114 (List._∷_ 118 (List._∷_ 101 (List._∷_ 121 List.[])))))))))))))))) (Syntax.ttcons (Syntax.tcons (Syntax.tyEnum (List._∷_ 114 (List._∷_ 101 (List._∷_ 102 (List._∷_ 117 (List._∷_ 115 (List._∷_ 97 (List._∷_ 108 (List._∷_ 58 (List._∷_ 58 (List._∷_ 82 (List._∷_ 101 (List._∷_ 102 (List._∷_ 117 (List._∷_ 115 (List._∷_ 97 (List._∷_ 108 List.[])))))))))))))))) (Syntax.ttcons Syntax.tnil (Syntax.ttcons Syntax.tnil (Syntax.ttcons Syntax.tnil (Syntax.ttcons (Syntax.tcons (Syntax.tyStruct (List._∷_ 115 (List._∷_ 104 (List._∷_ 101 (List._∷_ 101 (List._∷_ 116 (List._∷_ 58 (List._∷_ 58 (List._∷_ 84 (List._∷_ 101 (List._∷_ 114 (List._∷_ 109 (List._∷_ 78 (List._∷_ 117 (List._∷_ 109 (List._∷_ 98 (List._∷_ 101 (List._∷_ 114 List.[]))))))))))))))))) (Syntax.tcons (Syntax.tyInt Syntax.w8) Syntax.tnil)) Syntax.tnil) (Syntax.ttcons (Syntax.tcons (Syntax.tyStruct (List._∷_ 115 (List._∷_ 104 (List._∷_ 101 (List._∷_ 101 (List._∷_ 116 (List._∷_ 58 (List._∷_ 58 (List._∷_ 69 (List._∷_ 110 (List._∷_ 116 (List._∷_ 114 (List._∷_ 121 (List._∷_ 78 (List._∷_ 117 (List._∷_ 109 (List._∷_ 98 (List._∷_ 101 (List._∷_ 114 List.[])))))))))))))))))) (Syntax.tcons (Syntax.tyInt Syntax.w8) Syntax.tnil)) Syntax.tnil) (Syntax.ttcons Syntax.tnil Syntax.ttnil))))))) Syntax.tnil) (Syntax.ttcons Syntax.tnil (Syntax.ttcons Syntax.tnil (Syntax.ttcons (Syntax.tcons (Syntax.tyInt Syntax.w8) Syntax.tnil) Syntax.ttnil)))))) (List._∷_ (1, Rows'.sslice (Referent.rtF (Referent.fInt Syntax.w8)) (Syntax.tyRef (Syntax.named 0) Syntax.imm (Syntax.tyInt Syntax.w8)) 0) (List._∷_ (2, Rows'.sslice (Referent.rtF (Referent.fInt Syntax.w8)) (Syntax.tyRef (Syntax.named 1) Syntax.imm (Syntax.tyInt Syntax.w8)) 1) (List._∷_ (3, Rows'.sslice (Referent.rtF (Referent.fInt Syntax.w8)) (Syntax.tyRef (Syntax.named 2) Syntax.imm (Syntax.tyInt Syntax.w8)) 2) (List._∷_ (4, Rows'.sc-here (Row.sInt Syntax.w64)) (List._∷_ (5, Rows.arr-shr (Struct″.row StepT.the-type) 8 3) (List._∷_ (6, Rows'.any-gone (Syntax.tyArray (StepL.mir) 8)) (List._∷_ (7, Rows'.any-gone (Syntax.tyRef Syntax.erased Syntax.imm (Syntax.tyArray (Memory″.pointee ((Struct″.row StepT.the-type) .written)) 8))) (List._∷_ (8, Rows'.sslice (Struct″.row StepT.the-type) (Syntax.tyRef Syntax.erased Syntax.imm (Memory″.pointee ((Struct″.row StepT.the-type) .written))) 3) List.[]))))))))
+t6 = List._∷_ (0, Rows'.any-gone (Syntax.tyEnum (List._∷_ 115 (List._∷_ 117 (List._∷_ 114 (List._∷_ 118 (List._∷_ 101 (List._∷_ 121 (List._∷_ 111 (List._∷_ 114 (List._∷_ 58 (List._∷_ 58 (List._∷_ 83 (List._∷_ 117 (List._∷_ 114 (List._∷_ 118 (List._∷_ 101 (List._∷_ 121 List.[])))))))))))))))) (Syntax.ttcons (Syntax.tcons (Syntax.tyEnum (List._∷_ 114 (List._∷_ 101 (List._∷_ 102 (List._∷_ 117 (List._∷_ 115 (List._∷_ 97 (List._∷_ 108 (List._∷_ 58 (List._∷_ 58 (List._∷_ 82 (List._∷_ 101 (List._∷_ 102 (List._∷_ 117 (List._∷_ 115 (List._∷_ 97 (List._∷_ 108 List.[])))))))))))))))) (Syntax.ttcons Syntax.tnil (Syntax.ttcons Syntax.tnil (Syntax.ttcons Syntax.tnil (Syntax.ttcons (Syntax.tcons (Syntax.tyStruct (List._∷_ 115 (List._∷_ 104 (List._∷_ 101 (List._∷_ 101 (List._∷_ 116 (List._∷_ 58 (List._∷_ 58 (List._∷_ 84 (List._∷_ 101 (List._∷_ 114 (List._∷_ 109 (List._∷_ 78 (List._∷_ 117 (List._∷_ 109 (List._∷_ 98 (List._∷_ 101 (List._∷_ 114 List.[]))))))))))))))))) (Syntax.tcons (Syntax.tyInt Syntax.w8) Syntax.tnil)) Syntax.tnil) (Syntax.ttcons (Syntax.tcons (Syntax.tyStruct (List._∷_ 115 (List._∷_ 104 (List._∷_ 101 (List._∷_ 101 (List._∷_ 116 (List._∷_ 58 (List._∷_ 58 (List._∷_ 69 (List._∷_ 110 (List._∷_ 116 (List._∷_ 114 (List._∷_ 121 (List._∷_ 78 (List._∷_ 117 (List._∷_ 109 (List._∷_ 98 (List._∷_ 101 (List._∷_ 114 List.[])))))))))))))))))) (Syntax.tcons (Syntax.tyInt Syntax.w8) Syntax.tnil)) Syntax.tnil) (Syntax.ttcons Syntax.tnil Syntax.ttnil))))))) Syntax.tnil) (Syntax.ttcons Syntax.tnil (Syntax.ttcons Syntax.tnil (Syntax.ttcons (Syntax.tcons (Syntax.tyInt Syntax.w8) Syntax.tnil) Syntax.ttnil)))))) (List._∷_ (1, Rows'.sslice (Referent.rtF (Referent.fInt Syntax.w8)) (Syntax.tyRef (Syntax.named 0) Syntax.imm (Syntax.tyInt Syntax.w8)) 0) (List._∷_ (2, Rows'.sslice (Referent.rtF (Referent.fInt Syntax.w8)) (Syntax.tyRef (Syntax.named 1) Syntax.imm (Syntax.tyInt Syntax.w8)) 1) (List._∷_ (3, Rows'.sslice (Referent.rtF (Referent.fInt Syntax.w8)) (Syntax.tyRef (Syntax.named 2) Syntax.imm (Syntax.tyInt Syntax.w8)) 2) (List._∷_ (4, Rows'.sc-here (Row.sInt Syntax.w64)) (List._∷_ (5, Rows.arr-shrP (Struct″.row StepT.the-type) 8 3) (List._∷_ (6, Rows'.any-gone (Syntax.tyArray (StepL.mir) 8)) (List._∷_ (7, Rows'.any-gone (Syntax.tyRef Syntax.erased Syntax.imm (Syntax.tyArray (Memory″.pointee ((Struct″.row StepT.the-type) .written)) 8))) (List._∷_ (8, Rows'.sslice (Struct″.row StepT.the-type) (Syntax.tyRef Syntax.erased Syntax.imm (Memory″.pointee ((Struct″.row StepT.the-type) .written))) 3) List.[]))))))))
 
 abbrev pub t7 : List.List Row.Entry
-t7 = List._∷_ (0, Rows'.whole (Declared.row Survey.the-type)) (List._∷_ (1, Rows'.sslice (Referent.rtF (Referent.fInt Syntax.w8)) (Syntax.tyRef (Syntax.named 0) Syntax.imm (Syntax.tyInt Syntax.w8)) 0) (List._∷_ (2, Rows'.sslice (Referent.rtF (Referent.fInt Syntax.w8)) (Syntax.tyRef (Syntax.named 1) Syntax.imm (Syntax.tyInt Syntax.w8)) 1) (List._∷_ (3, Rows'.sslice (Referent.rtF (Referent.fInt Syntax.w8)) (Syntax.tyRef (Syntax.named 2) Syntax.imm (Syntax.tyInt Syntax.w8)) 2) (List._∷_ (4, Rows'.sc-here (Row.sInt Syntax.w64)) (List._∷_ (5, Rows.arr-shr (Struct″.row StepT.the-type) 8 3) (List._∷_ (6, Rows'.any-gone (Syntax.tyArray (StepL.mir) 8)) (List._∷_ (7, Rows'.any-gone (Syntax.tyRef Syntax.erased Syntax.imm (Syntax.tyArray (Memory″.pointee ((Struct″.row StepT.the-type) .written)) 8))) (List._∷_ (8, Rows'.sslice (Struct″.row StepT.the-type) (Syntax.tyRef Syntax.erased Syntax.imm (Memory″.pointee ((Struct″.row StepT.the-type) .written))) 3) List.[]))))))))
+t7 = List._∷_ (0, Rows'.whole (Declared.row Survey.the-type)) (List._∷_ (1, Rows'.sslice (Referent.rtF (Referent.fInt Syntax.w8)) (Syntax.tyRef (Syntax.named 0) Syntax.imm (Syntax.tyInt Syntax.w8)) 0) (List._∷_ (2, Rows'.sslice (Referent.rtF (Referent.fInt Syntax.w8)) (Syntax.tyRef (Syntax.named 1) Syntax.imm (Syntax.tyInt Syntax.w8)) 1) (List._∷_ (3, Rows'.sslice (Referent.rtF (Referent.fInt Syntax.w8)) (Syntax.tyRef (Syntax.named 2) Syntax.imm (Syntax.tyInt Syntax.w8)) 2) (List._∷_ (4, Rows'.sc-here (Row.sInt Syntax.w64)) (List._∷_ (5, Rows.arr-shrP (Struct″.row StepT.the-type) 8 3) (List._∷_ (6, Rows'.any-gone (Syntax.tyArray (StepL.mir) 8)) (List._∷_ (7, Rows'.any-gone (Syntax.tyRef Syntax.erased Syntax.imm (Syntax.tyArray (Memory″.pointee ((Struct″.row StepT.the-type) .written)) 8))) (List._∷_ (8, Rows'.sslice (Struct″.row StepT.the-type) (Syntax.tyRef Syntax.erased Syntax.imm (Memory″.pointee ((Struct″.row StepT.the-type) .written))) 3) List.[]))))))))
 
 abbrev pub t8 : List.List Row.Entry
-t8 = List._∷_ (0, Rows'.whole (Declared.row Survey.the-type)) (List._∷_ (1, Rows'.sslice (Referent.rtF (Referent.fInt Syntax.w8)) (Syntax.tyRef (Syntax.named 0) Syntax.imm (Syntax.tyInt Syntax.w8)) 0) (List._∷_ (2, Rows'.sslice (Referent.rtF (Referent.fInt Syntax.w8)) (Syntax.tyRef (Syntax.named 1) Syntax.imm (Syntax.tyInt Syntax.w8)) 1) (List._∷_ (3, Rows'.sslice (Referent.rtF (Referent.fInt Syntax.w8)) (Syntax.tyRef (Syntax.named 2) Syntax.imm (Syntax.tyInt Syntax.w8)) 2) (List._∷_ (4, Rows'.sc-here (Row.sInt Syntax.w64)) (List._∷_ (5, Rows.arr-shr (Struct″.row StepT.the-type) 8 3) (List._∷_ (6, Rows'.any-gone (Syntax.tyArray (StepL.mir) 8)) (List._∷_ (7, Rows'.any-gone (Syntax.tyRef Syntax.erased Syntax.imm (Syntax.tyArray (Memory″.pointee ((Struct″.row StepT.the-type) .written)) 8))) (List._∷_ (8, Rows'.any-gone (Syntax.tyStruct (List._∷_ 38 (List._∷_ 91 (List._∷_ 93 List.[]))) (Syntax.tcons (Syntax.tyRef Syntax.erased Syntax.imm (Memory″.pointee ((Struct″.row StepT.the-type) .written))) (Syntax.tcons (Syntax.tyInt Syntax.w64) Syntax.tnil)))) List.[]))))))))
+t8 = List._∷_ (0, Rows'.whole (Declared.row Survey.the-type)) (List._∷_ (1, Rows'.sslice (Referent.rtF (Referent.fInt Syntax.w8)) (Syntax.tyRef (Syntax.named 0) Syntax.imm (Syntax.tyInt Syntax.w8)) 0) (List._∷_ (2, Rows'.sslice (Referent.rtF (Referent.fInt Syntax.w8)) (Syntax.tyRef (Syntax.named 1) Syntax.imm (Syntax.tyInt Syntax.w8)) 1) (List._∷_ (3, Rows'.sslice (Referent.rtF (Referent.fInt Syntax.w8)) (Syntax.tyRef (Syntax.named 2) Syntax.imm (Syntax.tyInt Syntax.w8)) 2) (List._∷_ (4, Rows'.sc-here (Row.sInt Syntax.w64)) (List._∷_ (5, Rows.arr-shrP (Struct″.row StepT.the-type) 8 3) (List._∷_ (6, Rows'.any-gone (Syntax.tyArray (StepL.mir) 8)) (List._∷_ (7, Rows'.any-gone (Syntax.tyRef Syntax.erased Syntax.imm (Syntax.tyArray (Memory″.pointee ((Struct″.row StepT.the-type) .written)) 8))) (List._∷_ (8, Rows'.any-gone (Syntax.tyStruct (List._∷_ 38 (List._∷_ 91 (List._∷_ 93 List.[]))) (Syntax.tcons (Syntax.tyRef Syntax.erased Syntax.imm (Memory″.pointee ((Struct″.row StepT.the-type) .written))) (Syntax.tcons (Syntax.tyInt Syntax.w64) Syntax.tnil)))) List.[]))))))))
 
 abbrev pub t9 : List.List Row.Entry
 t9 = List._∷_ (0, Rows'.whole (Declared.row Survey.the-type)) (List._∷_ (1, Rows'.sslice (Referent.rtF (Referent.fInt Syntax.w8)) (Syntax.tyRef (Syntax.named 0) Syntax.imm (Syntax.tyInt Syntax.w8)) 0) (List._∷_ (2, Rows'.sslice (Referent.rtF (Referent.fInt Syntax.w8)) (Syntax.tyRef (Syntax.named 1) Syntax.imm (Syntax.tyInt Syntax.w8)) 1) (List._∷_ (3, Rows'.sslice (Referent.rtF (Referent.fInt Syntax.w8)) (Syntax.tyRef (Syntax.named 2) Syntax.imm (Syntax.tyInt Syntax.w8)) 2) (List._∷_ (4, Rows'.sc-here (Row.sInt Syntax.w64)) (List._∷_ (5, Rows.arrF (Struct″.row StepT.the-type) 8 0) (List._∷_ (6, Rows'.any-gone (Syntax.tyArray (StepL.mir) 8)) (List._∷_ (7, Rows'.any-gone (Syntax.tyRef Syntax.erased Syntax.imm (Syntax.tyArray (Memory″.pointee ((Struct″.row StepT.the-type) .written)) 8))) (List._∷_ (8, Rows'.any-gone (Syntax.tyStruct (List._∷_ 38 (List._∷_ 91 (List._∷_ 93 List.[]))) (Syntax.tcons (Syntax.tyRef Syntax.erased Syntax.imm (Memory″.pointee ((Struct″.row StepT.the-type) .written))) (Syntax.tcons (Syntax.tyInt Syntax.w64) Syntax.tnil)))) List.[]))))))))
@@ -221,14 +221,14 @@ module _ (claims· : Claims) where
   abbrev s5 : Typed.Mo T6 → Typed.Mo T7
   s5 = Scalar.n-room T6 6 (Syntax.tyArray (StepL.mir) 8)
 
-  abbrev s7 : Typed.Gives T7 T9
-  s7 = Share.k-arr-share (Struct″.row StepT.the-type) T7 5 7 8 3 (Syntax.tyRef Syntax.erased Syntax.imm (Syntax.tyArray (Memory″.pointee ((Struct″.row StepT.the-type) .written)) 8)) λ x. x
+  abbrev s7 : Typed.Both T7 T9
+  s7 = Share.k-arr-shareᵖ (Struct″.row StepT.the-type) T7 5 7 8 3 (Syntax.tyRef Syntax.erased Syntax.imm (Syntax.tyArray (Memory″.pointee ((Struct″.row StepT.the-type) .written)) 8)) (λ x. x) λ u. u .1 .1 .1 .1 .0
 
   abbrev s8 : Typed.Asks T9 T10
-  s8 = Relend.k-sl-aggregate (Struct″.row StepT.the-type) (Relend.asShr (Struct″.row StepT.the-type)) T9 7 8 3 (Syntax.tyRef Syntax.erased Syntax.imm (Syntax.tyArray (Memory″.pointee ((Struct″.row StepT.the-type) .written)) 8)) (Syntax.tyRef Syntax.erased Syntax.imm (Memory″.pointee ((Struct″.row StepT.the-type) .written))) (λ x. x) (Scalar.oInt Syntax.w64 8)
+  s8 = Relend.k-sl-aggregate (Struct″.row StepT.the-type) (Relend.asShr (Struct″.row StepT.the-type)) T9 7 8 3 (Syntax.tyRef Syntax.erased Syntax.imm (Syntax.tyArray (Memory″.pointee ((Struct″.row StepT.the-type) .written)) 8)) (Syntax.tyRef Syntax.erased Syntax.imm (Memory″.pointee ((Struct″.row StepT.the-type) .written))) (λ x. x) (Scalar.oAt 4 (Syntax.tyInt Syntax.w64) (Row.valS (Row.sInt Syntax.w64)))
 
   abbrev s9 : Typed.Both T10 T11
-  s9 = Call.callB ps·1 r·1 (claims· .2) (claims· .3) T10 (record { pos = 1; ty = Syntax.tyRef (Syntax.named 0) Syntax.imm (Syntax.tyInt Syntax.w8); ref = λ x. x }, (record { pos = 2; ty = Syntax.tyRef (Syntax.named 1) Syntax.imm (Syntax.tyInt Syntax.w8); ref = λ x. x }, (record { pos = 8; ty = Syntax.tyRef Syntax.erased Syntax.imm (Memory″.pointee ((Struct″.row StepT.the-type) .written)); ref = λ x. x }, (Num.vAt 4 λ x. x, tt)))) 0 (List._∷_ 0 (List._∷_ 1 (List._∷_ 3 List.[]))) (Syntax.tyEnum (List._∷_ 115 (List._∷_ 117 (List._∷_ 114 (List._∷_ 118 (List._∷_ 101 (List._∷_ 121 (List._∷_ 111 (List._∷_ 114 (List._∷_ 58 (List._∷_ 58 (List._∷_ 83 (List._∷_ 117 (List._∷_ 114 (List._∷_ 118 (List._∷_ 101 (List._∷_ 121 List.[])))))))))))))))) (Syntax.ttcons (Syntax.tcons (Syntax.tyEnum (List._∷_ 114 (List._∷_ 101 (List._∷_ 102 (List._∷_ 117 (List._∷_ 115 (List._∷_ 97 (List._∷_ 108 (List._∷_ 58 (List._∷_ 58 (List._∷_ 82 (List._∷_ 101 (List._∷_ 102 (List._∷_ 117 (List._∷_ 115 (List._∷_ 97 (List._∷_ 108 List.[])))))))))))))))) (Syntax.ttcons Syntax.tnil (Syntax.ttcons Syntax.tnil (Syntax.ttcons Syntax.tnil (Syntax.ttcons (Syntax.tcons (Syntax.tyStruct (List._∷_ 115 (List._∷_ 104 (List._∷_ 101 (List._∷_ 101 (List._∷_ 116 (List._∷_ 58 (List._∷_ 58 (List._∷_ 84 (List._∷_ 101 (List._∷_ 114 (List._∷_ 109 (List._∷_ 78 (List._∷_ 117 (List._∷_ 109 (List._∷_ 98 (List._∷_ 101 (List._∷_ 114 List.[]))))))))))))))))) (Syntax.tcons (Syntax.tyInt Syntax.w8) Syntax.tnil)) Syntax.tnil) (Syntax.ttcons (Syntax.tcons (Syntax.tyStruct (List._∷_ 115 (List._∷_ 104 (List._∷_ 101 (List._∷_ 101 (List._∷_ 116 (List._∷_ 58 (List._∷_ 58 (List._∷_ 69 (List._∷_ 110 (List._∷_ 116 (List._∷_ 114 (List._∷_ 121 (List._∷_ 78 (List._∷_ 117 (List._∷_ 109 (List._∷_ 98 (List._∷_ 101 (List._∷_ 114 List.[])))))))))))))))))) (Syntax.tcons (Syntax.tyInt Syntax.w8) Syntax.tnil)) Syntax.tnil) (Syntax.ttcons Syntax.tnil Syntax.ttnil))))))) Syntax.tnil) (Syntax.ttcons Syntax.tnil (Syntax.ttcons Syntax.tnil (Syntax.ttcons (Syntax.tcons (Syntax.tyInt Syntax.w8) Syntax.tnil) Syntax.ttnil)))))
+  s9 = Call.callB ps·1 r·1 (claims· .2) (claims· .3) T10 (record { pos = 1; ty = Syntax.tyRef (Syntax.named 0) Syntax.imm (Syntax.tyInt Syntax.w8); ref = λ x. x }, (record { pos = 2; ty = Syntax.tyRef (Syntax.named 1) Syntax.imm (Syntax.tyInt Syntax.w8); ref = λ x. x }, (record { pos = 8; ty = Syntax.tyRef Syntax.erased Syntax.imm (Memory″.pointee ((Struct″.row StepT.the-type) .written)); ref = λ x. x }, tt))) 0 (List._∷_ 0 (List._∷_ 1 (List._∷_ 3 List.[]))) (Syntax.tyEnum (List._∷_ 115 (List._∷_ 117 (List._∷_ 114 (List._∷_ 118 (List._∷_ 101 (List._∷_ 121 (List._∷_ 111 (List._∷_ 114 (List._∷_ 58 (List._∷_ 58 (List._∷_ 83 (List._∷_ 117 (List._∷_ 114 (List._∷_ 118 (List._∷_ 101 (List._∷_ 121 List.[])))))))))))))))) (Syntax.ttcons (Syntax.tcons (Syntax.tyEnum (List._∷_ 114 (List._∷_ 101 (List._∷_ 102 (List._∷_ 117 (List._∷_ 115 (List._∷_ 97 (List._∷_ 108 (List._∷_ 58 (List._∷_ 58 (List._∷_ 82 (List._∷_ 101 (List._∷_ 102 (List._∷_ 117 (List._∷_ 115 (List._∷_ 97 (List._∷_ 108 List.[])))))))))))))))) (Syntax.ttcons Syntax.tnil (Syntax.ttcons Syntax.tnil (Syntax.ttcons Syntax.tnil (Syntax.ttcons (Syntax.tcons (Syntax.tyStruct (List._∷_ 115 (List._∷_ 104 (List._∷_ 101 (List._∷_ 101 (List._∷_ 116 (List._∷_ 58 (List._∷_ 58 (List._∷_ 84 (List._∷_ 101 (List._∷_ 114 (List._∷_ 109 (List._∷_ 78 (List._∷_ 117 (List._∷_ 109 (List._∷_ 98 (List._∷_ 101 (List._∷_ 114 List.[]))))))))))))))))) (Syntax.tcons (Syntax.tyInt Syntax.w8) Syntax.tnil)) Syntax.tnil) (Syntax.ttcons (Syntax.tcons (Syntax.tyStruct (List._∷_ 115 (List._∷_ 104 (List._∷_ 101 (List._∷_ 101 (List._∷_ 116 (List._∷_ 58 (List._∷_ 58 (List._∷_ 69 (List._∷_ 110 (List._∷_ 116 (List._∷_ 114 (List._∷_ 121 (List._∷_ 78 (List._∷_ 117 (List._∷_ 109 (List._∷_ 98 (List._∷_ 101 (List._∷_ 114 List.[])))))))))))))))))) (Syntax.tcons (Syntax.tyInt Syntax.w8) Syntax.tnil)) Syntax.tnil) (Syntax.ttcons Syntax.tnil Syntax.ttnil))))))) Syntax.tnil) (Syntax.ttcons Syntax.tnil (Syntax.ttcons Syntax.tnil (Syntax.ttcons (Syntax.tcons (Syntax.tyInt Syntax.w8) Syntax.tnil) Syntax.ttnil)))))
 
   abbrev s10 : Typed.Mo T11 → Typed.Mo T12
   s10 = Scalar.n-room T11 8 (Syntax.tyStruct (List._∷_ 38 (List._∷_ 91 (List._∷_ 93 List.[]))) (Syntax.tcons (Syntax.tyRef Syntax.erased Syntax.imm (Memory″.pointee ((Struct″.row StepT.the-type) .written))) (Syntax.tcons (Syntax.tyInt Syntax.w64) Syntax.tnil)))
@@ -245,7 +245,7 @@ module _ (claims· : Claims) where
   module _ (Pre· : (κs : Lifetimes.Lfts 3) → Kinds.Dens κs ps → Type 0) (Post· : (κs : Lifetimes.Lfts 3) → (a : Kinds.Dens κs ps) → Kinds.Plain 3 ps r κs) where
     module _ (M : Type 1) where
       abbrev pub Closed : Type 2
-      Closed = (𝓤 : URA.URA M) (H : Wp.Heap 𝓤) (A : Atoms.Atoms 𝓤) (W : Kit.Given 𝓤 H A) (𝓣 : Wp.Tables 𝓤 H) (known0 : Plain.Known 𝓤 H A W 𝓣 1 ps·0 r·0 (claims· .0) (claims· .1) "recited::first_few") (known1 : Plain.Known 𝓤 H A W 𝓣 3 ps·1 r·1 (claims· .2) (claims· .3) "surveyor::check_first") → Statement.Triple 𝓤 (Wp.WpFn 𝓤 H (𝓣 .C) (𝓣 .Λ) (Function.fnOf 3 ps r xs m hs body)) (Function.plainOf 𝓤 H A 3 ps r Pre· Post·)
+      Closed = (𝓤 : URA.URA M) (H : Wp.Heap 𝓤) (A : Atoms.Atoms 𝓤) (W : Kit.Given 𝓤 H A) (𝓣 : Wp.Tables 𝓤 H) (known0 : Plain.Known 𝓤 H A W 𝓣 1 ps·0 r·0 (claims· .0) (claims· .1) "recited::first_few") (known1 : Plain.Known 𝓤 H A W 𝓣 3 ps·1 r·1 (claims· .2) (claims· .3) "surveyor::check") → Statement.Triple 𝓤 (Wp.WpFn 𝓤 H (𝓣 .C) (𝓣 .Λ) (Function.fnOf 3 ps r xs m hs body)) (Function.plainOf 𝓤 H A 3 ps r Pre· Post·)
 
     module _ where
       abbrev at0 : Typed.TF T17 O0
@@ -276,7 +276,7 @@ module _ (claims· : Claims) where
       at8 = λ Ψ. Typed.ask s8 (at7 Ψ)
 
       abbrev at9 : Typed.TF T7 O0
-      at9 = λ Ψ. Typed.give s7 (at8 Ψ)
+      at9 = λ Ψ. Typed.both s7 (at8 Ψ)
 
       abbrev at10 : Typed.TF T7 O0
       at10 = λ Ψ. at9 Ψ
@@ -304,7 +304,7 @@ module _ (claims· : Claims) where
 
       module _ {M : Type 1} (𝓤 : URA.URA M) (H : Wp.Heap 𝓤) (A : Atoms.Atoms 𝓤) (W : Kit.Given 𝓤 H A) (𝓣 : Wp.Tables 𝓤 H) where
         abbrev Knowns : Type 1
-        Knowns = Plain.Known 𝓤 H A W 𝓣 1 ps·0 r·0 (claims· .0) (claims· .1) "recited::first_few" × Plain.Known 𝓤 H A W 𝓣 3 ps·1 r·1 (claims· .2) (claims· .3) "surveyor::check_first"
+        Knowns = Plain.Known 𝓤 H A W 𝓣 1 ps·0 r·0 (claims· .0) (claims· .1) "recited::first_few" × Plain.Known 𝓤 H A W 𝓣 3 ps·1 r·1 (claims· .2) (claims· .3) "surveyor::check"
 
       module _ (κs : Lifetimes.Lfts 3) (qs : Lifetimes.Shares 3) where
         abbrev G0 : Row.Cx
@@ -381,7 +381,7 @@ module _ (claims· : Claims) where
           d3 = Typed.g-pre 𝓤 H A W 𝓣 E G14 G15 b5 Δ0 (λ Ψ. Ψ) at2 (Lifetime.g-forget 𝓤 H A W E G14 3 Row.dead Path'.refl) d2
 
           d4 : Typed.Typed 𝓤 H A 𝓣 E G13 b5 Δ0 at4
-          d4 = Typed.g-pre 𝓤 H A W 𝓣 E G13 G14 b5 Δ0 (Typed.pass T12 T14 s12) at3 (Share.g-back-arr-shr 𝓤 H A W E (Struct″.row StepT.the-type) G13 5 8 3 (λ x. x) (Reads.as-is 𝓤 H A (Rows.arr-shr (Struct″.row StepT.the-type) 8 3)) Path'.refl) d3
+          d4 = Typed.g-pre 𝓤 H A W 𝓣 E G13 G14 b5 Δ0 (Typed.pass T12 T14 s12) at3 (Share.g-back-arr-shrᵖ 𝓤 H A W E (Struct″.row StepT.the-type) G13 5 8 3 (λ x. x) (Reads.as-is 𝓤 H A (Rows.arr-shrP (Struct″.row StepT.the-type) 8 3)) Path'.refl) d3
 
           d5 : Typed.Typed 𝓤 H A 𝓣 E G12 b5 Δ0 at5
           d5 = Typed.g-pre 𝓤 H A W 𝓣 E G12 G13 b5 Δ0 (λ Ψ. Ψ) at4 (Lifetime.g-end 𝓤 H A W E G12 3 Path'.refl) d4
@@ -390,13 +390,13 @@ module _ (claims· : Claims) where
           d6 = Typed.g-pre 𝓤 H A W 𝓣 E G11 G12 b5 Δ0 (Typed.pass T11 T12 s10) at5 (Scalar.g-room 𝓤 H A W E G11 8 (Syntax.tyStruct (List._∷_ 38 (List._∷_ 91 (List._∷_ 93 List.[]))) (Syntax.tcons (Syntax.tyRef Syntax.erased Syntax.imm (Memory″.pointee ((Struct″.row StepT.the-type) .written))) (Syntax.tcons (Syntax.tyInt Syntax.w64) Syntax.tnil))) (Shared.room-sslice 𝓤 H A W (Struct″.row StepT.the-type) (Syntax.tyRef Syntax.erased Syntax.imm (Memory″.pointee ((Struct″.row StepT.the-type) .written))) 3)) d5
 
           d7 : Typed.Typed 𝓤 H A 𝓣 E G10 b6 Δ0 at7
-          d7 = Typed.s-seq 𝓤 H A W 𝓣 E G10 G11 b4 b5 Δ0 (Typed.both s9) at6 (Plain.t-call-plain 𝓤 H A W 𝓣 3 ps·1 r·1 (claims· .2) (claims· .3) "surveyor::check_first" (known .1) E (λ pos β. β) G10 (record { pos = 1; ty = Syntax.tyRef (Syntax.named 0) Syntax.imm (Syntax.tyInt Syntax.w8); ref = λ x. x }, (record { pos = 2; ty = Syntax.tyRef (Syntax.named 1) Syntax.imm (Syntax.tyInt Syntax.w8); ref = λ x. x }, (record { pos = 8; ty = Syntax.tyRef Syntax.erased Syntax.imm (Memory″.pointee ((Struct″.row StepT.the-type) .written)); ref = λ x. x }, (Num.vAt 4 λ x. x, tt)))) 0 (List._∷_ 0 (List._∷_ 1 (List._∷_ 3 List.[]))) (Call.sub-id 𝓤 H A W (G10 .slots)) (ShrSlice.spares-sslice 𝓤 H A W (Referent.rtF (Referent.fInt Syntax.w8)) (Syntax.tyRef (Syntax.named 0) Syntax.imm (Syntax.tyInt Syntax.w8)) 0, Shared.reads-sslice 𝓤 H A W (Referent.rtF (Referent.fInt Syntax.w8)) (Syntax.tyRef (Syntax.named 0) Syntax.imm (Syntax.tyInt Syntax.w8)) 0, Path'.refl, (ShrSlice.spares-sslice 𝓤 H A W (Referent.rtF (Referent.fInt Syntax.w8)) (Syntax.tyRef (Syntax.named 1) Syntax.imm (Syntax.tyInt Syntax.w8)) 1, Shared.reads-sslice 𝓤 H A W (Referent.rtF (Referent.fInt Syntax.w8)) (Syntax.tyRef (Syntax.named 1) Syntax.imm (Syntax.tyInt Syntax.w8)) 1, Path'.refl, (ShrSlice.spares-sslice 𝓤 H A W (Struct″.row StepT.the-type) (Syntax.tyRef Syntax.erased Syntax.imm (Memory″.pointee ((Struct″.row StepT.the-type) .written))) 3, Shared.reads-sslice 𝓤 H A W (Struct″.row StepT.the-type) (Syntax.tyRef Syntax.erased Syntax.imm (Memory″.pointee ((Struct″.row StepT.the-type) .written))) 3, Path'.refl, ((Scalar.reads-sc 𝓤 H A W (Row.sInt Syntax.w64), Path'.refl), tt)))) (Reads.room-gone 𝓤 H A (Syntax.tyEnum (List._∷_ 115 (List._∷_ 117 (List._∷_ 114 (List._∷_ 118 (List._∷_ 101 (List._∷_ 121 (List._∷_ 111 (List._∷_ 114 (List._∷_ 58 (List._∷_ 58 (List._∷_ 83 (List._∷_ 117 (List._∷_ 114 (List._∷_ 118 (List._∷_ 101 (List._∷_ 121 List.[])))))))))))))))) (Syntax.ttcons (Syntax.tcons (Syntax.tyEnum (List._∷_ 114 (List._∷_ 101 (List._∷_ 102 (List._∷_ 117 (List._∷_ 115 (List._∷_ 97 (List._∷_ 108 (List._∷_ 58 (List._∷_ 58 (List._∷_ 82 (List._∷_ 101 (List._∷_ 102 (List._∷_ 117 (List._∷_ 115 (List._∷_ 97 (List._∷_ 108 List.[])))))))))))))))) (Syntax.ttcons Syntax.tnil (Syntax.ttcons Syntax.tnil (Syntax.ttcons Syntax.tnil (Syntax.ttcons (Syntax.tcons (Syntax.tyStruct (List._∷_ 115 (List._∷_ 104 (List._∷_ 101 (List._∷_ 101 (List._∷_ 116 (List._∷_ 58 (List._∷_ 58 (List._∷_ 84 (List._∷_ 101 (List._∷_ 114 (List._∷_ 109 (List._∷_ 78 (List._∷_ 117 (List._∷_ 109 (List._∷_ 98 (List._∷_ 101 (List._∷_ 114 List.[]))))))))))))))))) (Syntax.tcons (Syntax.tyInt Syntax.w8) Syntax.tnil)) Syntax.tnil) (Syntax.ttcons (Syntax.tcons (Syntax.tyStruct (List._∷_ 115 (List._∷_ 104 (List._∷_ 101 (List._∷_ 101 (List._∷_ 116 (List._∷_ 58 (List._∷_ 58 (List._∷_ 69 (List._∷_ 110 (List._∷_ 116 (List._∷_ 114 (List._∷_ 121 (List._∷_ 78 (List._∷_ 117 (List._∷_ 109 (List._∷_ 98 (List._∷_ 101 (List._∷_ 114 List.[])))))))))))))))))) (Syntax.tcons (Syntax.tyInt Syntax.w8) Syntax.tnil)) Syntax.tnil) (Syntax.ttcons Syntax.tnil Syntax.ttnil))))))) Syntax.tnil) (Syntax.ttcons Syntax.tnil (Syntax.ttcons Syntax.tnil (Syntax.ttcons (Syntax.tcons (Syntax.tyInt Syntax.w8) Syntax.tnil) Syntax.ttnil)))))) (tt, (tt, (tt, tt))) Path'.refl) d6
+          d7 = Typed.s-seq 𝓤 H A W 𝓣 E G10 G11 b4 b5 Δ0 (Typed.both s9) at6 (Plain.t-call-plain 𝓤 H A W 𝓣 3 ps·1 r·1 (claims· .2) (claims· .3) "surveyor::check" (known .1) E (λ pos β. β) G10 (record { pos = 1; ty = Syntax.tyRef (Syntax.named 0) Syntax.imm (Syntax.tyInt Syntax.w8); ref = λ x. x }, (record { pos = 2; ty = Syntax.tyRef (Syntax.named 1) Syntax.imm (Syntax.tyInt Syntax.w8); ref = λ x. x }, (record { pos = 8; ty = Syntax.tyRef Syntax.erased Syntax.imm (Memory″.pointee ((Struct″.row StepT.the-type) .written)); ref = λ x. x }, tt))) 0 (List._∷_ 0 (List._∷_ 1 (List._∷_ 3 List.[]))) (Call.sub-id 𝓤 H A W (G10 .slots)) (ShrSlice.spares-sslice 𝓤 H A W (Referent.rtF (Referent.fInt Syntax.w8)) (Syntax.tyRef (Syntax.named 0) Syntax.imm (Syntax.tyInt Syntax.w8)) 0, Shared.reads-sslice 𝓤 H A W (Referent.rtF (Referent.fInt Syntax.w8)) (Syntax.tyRef (Syntax.named 0) Syntax.imm (Syntax.tyInt Syntax.w8)) 0, Path'.refl, (ShrSlice.spares-sslice 𝓤 H A W (Referent.rtF (Referent.fInt Syntax.w8)) (Syntax.tyRef (Syntax.named 1) Syntax.imm (Syntax.tyInt Syntax.w8)) 1, Shared.reads-sslice 𝓤 H A W (Referent.rtF (Referent.fInt Syntax.w8)) (Syntax.tyRef (Syntax.named 1) Syntax.imm (Syntax.tyInt Syntax.w8)) 1, Path'.refl, (ShrSlice.spares-sslice 𝓤 H A W (Struct″.row StepT.the-type) (Syntax.tyRef Syntax.erased Syntax.imm (Memory″.pointee ((Struct″.row StepT.the-type) .written))) 3, Shared.reads-sslice 𝓤 H A W (Struct″.row StepT.the-type) (Syntax.tyRef Syntax.erased Syntax.imm (Memory″.pointee ((Struct″.row StepT.the-type) .written))) 3, Path'.refl, tt))) (Reads.room-gone 𝓤 H A (Syntax.tyEnum (List._∷_ 115 (List._∷_ 117 (List._∷_ 114 (List._∷_ 118 (List._∷_ 101 (List._∷_ 121 (List._∷_ 111 (List._∷_ 114 (List._∷_ 58 (List._∷_ 58 (List._∷_ 83 (List._∷_ 117 (List._∷_ 114 (List._∷_ 118 (List._∷_ 101 (List._∷_ 121 List.[])))))))))))))))) (Syntax.ttcons (Syntax.tcons (Syntax.tyEnum (List._∷_ 114 (List._∷_ 101 (List._∷_ 102 (List._∷_ 117 (List._∷_ 115 (List._∷_ 97 (List._∷_ 108 (List._∷_ 58 (List._∷_ 58 (List._∷_ 82 (List._∷_ 101 (List._∷_ 102 (List._∷_ 117 (List._∷_ 115 (List._∷_ 97 (List._∷_ 108 List.[])))))))))))))))) (Syntax.ttcons Syntax.tnil (Syntax.ttcons Syntax.tnil (Syntax.ttcons Syntax.tnil (Syntax.ttcons (Syntax.tcons (Syntax.tyStruct (List._∷_ 115 (List._∷_ 104 (List._∷_ 101 (List._∷_ 101 (List._∷_ 116 (List._∷_ 58 (List._∷_ 58 (List._∷_ 84 (List._∷_ 101 (List._∷_ 114 (List._∷_ 109 (List._∷_ 78 (List._∷_ 117 (List._∷_ 109 (List._∷_ 98 (List._∷_ 101 (List._∷_ 114 List.[]))))))))))))))))) (Syntax.tcons (Syntax.tyInt Syntax.w8) Syntax.tnil)) Syntax.tnil) (Syntax.ttcons (Syntax.tcons (Syntax.tyStruct (List._∷_ 115 (List._∷_ 104 (List._∷_ 101 (List._∷_ 101 (List._∷_ 116 (List._∷_ 58 (List._∷_ 58 (List._∷_ 69 (List._∷_ 110 (List._∷_ 116 (List._∷_ 114 (List._∷_ 121 (List._∷_ 78 (List._∷_ 117 (List._∷_ 109 (List._∷_ 98 (List._∷_ 101 (List._∷_ 114 List.[])))))))))))))))))) (Syntax.tcons (Syntax.tyInt Syntax.w8) Syntax.tnil)) Syntax.tnil) (Syntax.ttcons Syntax.tnil Syntax.ttnil))))))) Syntax.tnil) (Syntax.ttcons Syntax.tnil (Syntax.ttcons Syntax.tnil (Syntax.ttcons (Syntax.tcons (Syntax.tyInt Syntax.w8) Syntax.tnil) Syntax.ttnil)))))) (tt, (tt, (tt, tt))) Path'.refl) d6
 
           d8 : Typed.Typed 𝓤 H A 𝓣 E G9 b7 Δ0 at8
-          d8 = Typed.s-seq 𝓤 H A W 𝓣 E G9 G10 b3 b6 Δ0 (Typed.ask s8) at7 (Relend.t-sl-aggregate 𝓤 H A W E (Struct″.row StepT.the-type) 𝓣 (Relend.asShr (Struct″.row StepT.the-type)) G9 7 8 3 (Syntax.tyRef Syntax.erased Syntax.imm (Syntax.tyArray (Memory″.pointee ((Struct″.row StepT.the-type) .written)) 8)) (Syntax.tyRef Syntax.erased Syntax.imm (Memory″.pointee ((Struct″.row StepT.the-type) .written))) (λ x. x) (Scalar.oInt Syntax.w64 8) (Reads.as-is 𝓤 H A (Relend.ssptr (Struct″.row StepT.the-type) (Syntax.tyRef Syntax.erased Syntax.imm (Syntax.tyArray (Memory″.pointee ((Struct″.row StepT.the-type) .written)) 8)) 3)) (Reads.room-gone 𝓤 H A (Syntax.tyStruct (List._∷_ 38 (List._∷_ 91 (List._∷_ 93 List.[]))) (Syntax.tcons (Syntax.tyRef Syntax.erased Syntax.imm (Memory″.pointee ((Struct″.row StepT.the-type) .written))) (Syntax.tcons (Syntax.tyInt Syntax.w64) Syntax.tnil)))) tt Path'.refl Path'.refl λ b o k. tt) d7
+          d8 = Typed.s-seq 𝓤 H A W 𝓣 E G9 G10 b3 b6 Δ0 (Typed.ask s8) at7 (Relend.t-sl-aggregate 𝓤 H A W E (Struct″.row StepT.the-type) 𝓣 (Relend.asShr (Struct″.row StepT.the-type)) G9 7 8 3 (Syntax.tyRef Syntax.erased Syntax.imm (Syntax.tyArray (Memory″.pointee ((Struct″.row StepT.the-type) .written)) 8)) (Syntax.tyRef Syntax.erased Syntax.imm (Memory″.pointee ((Struct″.row StepT.the-type) .written))) (λ x. x) (Scalar.oAt 4 (Syntax.tyInt Syntax.w64) (Row.valS (Row.sInt Syntax.w64))) (Reads.as-is 𝓤 H A (Relend.ssptr (Struct″.row StepT.the-type) (Syntax.tyRef Syntax.erased Syntax.imm (Syntax.tyArray (Memory″.pointee ((Struct″.row StepT.the-type) .written)) 8)) 3)) (Reads.room-gone 𝓤 H A (Syntax.tyStruct (List._∷_ 38 (List._∷_ 91 (List._∷_ 93 List.[]))) (Syntax.tcons (Syntax.tyRef Syntax.erased Syntax.imm (Memory″.pointee ((Struct″.row StepT.the-type) .written))) (Syntax.tcons (Syntax.tyInt Syntax.w64) Syntax.tnil)))) (Scalar.reads-sc 𝓤 H A W (Row.sInt Syntax.w64), Path'.refl) Path'.refl Path'.refl λ b o k. tt) d7
 
           d9 : Typed.Typed 𝓤 H A 𝓣 E G8 b8 Δ0 at9
-          d9 = Typed.s-seq 𝓤 H A W 𝓣 E G8 G9 b2 b7 Δ0 (Typed.give s7) at8 (Share.t-arr-share 𝓤 H A W E 𝓣 (Struct″.row StepT.the-type) G8 5 7 8 3 (Syntax.tyRef Syntax.erased Syntax.imm (Syntax.tyArray (Memory″.pointee ((Struct″.row StepT.the-type) .written)) 8)) (λ x. x) (Reads.as-is 𝓤 H A (Rows.arrF (Struct″.row StepT.the-type) 8 0)) (Reads.room-gone 𝓤 H A (Syntax.tyRef Syntax.erased Syntax.imm (Syntax.tyArray (Memory″.pointee ((Struct″.row StepT.the-type) .written)) 8))) Path'.refl (λ b o. tt) (Dec'.lit< tt, Dec'.lit< tt)) d8
+          d9 = Typed.s-seq 𝓤 H A W 𝓣 E G8 G9 b2 b7 Δ0 (Typed.both s7) at8 (Share.t-arr-shareᵖ 𝓤 H A W E 𝓣 (Struct″.row StepT.the-type) G8 5 7 8 3 (Syntax.tyRef Syntax.erased Syntax.imm (Syntax.tyArray (Memory″.pointee ((Struct″.row StepT.the-type) .written)) 8)) (λ x. x) (λ u. u .1 .1 .1 .1 .0) (Reads.as-is 𝓤 H A (Rows.arrF (Struct″.row StepT.the-type) 8 0)) (Reads.room-gone 𝓤 H A (Syntax.tyRef Syntax.erased Syntax.imm (Syntax.tyArray (Memory″.pointee ((Struct″.row StepT.the-type) .written)) 8))) Path'.refl (λ b o. tt) (Dec'.lit< tt, Dec'.lit< tt)) d8
 
           d10 : Typed.Typed 𝓤 H A 𝓣 E G7 b8 Δ0 at10
           d10 = Typed.g-pre 𝓤 H A W 𝓣 E G7 G8 b8 Δ0 (λ Ψ. Ψ) at9 (Lifetime.g-begin 𝓤 H A W E G7 3 (tt, (tt, (tt, (tt, (tt, (tt, (tt, (tt, (tt, tt)))))))))) d9
@@ -505,6 +505,9 @@ module _ (claims· : Claims) where
       abbrev pub m6 : (before : After-shared-slice-known3) → (given : s3 .gives (m3 (before .before) (before .shared-slice-known3 .given))) → Typed.Mo T7
       m6 = λ before given. s5 (m5 before given)
 
+      abbrev pub Need-array-share-prefix-steps : Type 0
+      Need-array-share-prefix-steps = (c : After-first-few) → s7 .asks (m6 (c .before) (After-first-few·gave c))
+
       abbrev pub m7 : (before : After-first-few) → (given : s7 .gives (m6 (before .before) (After-first-few·gave before))) → Typed.Mo T9
       m7 = λ before given. s7 .next (m6 (before .before) (After-first-few·gave before)) given
 
@@ -516,28 +519,28 @@ module _ (claims· : Claims) where
         pub before : After-first-few
         pub steps : After-steps·own before
 
-      abbrev pub Need-slice-aggregate-check-first : Type 0
-      Need-slice-aggregate-check-first = (c : After-steps) → Relend.CountIs T9 7 8 (λ x. x) (λ u. 8) (m7 (c .before) (c .steps .given))
+      abbrev pub Need-slice-aggregate-check : Type 0
+      Need-slice-aggregate-check = (c : After-steps) → Relend.CountIs T9 7 8 (λ x. x) (λ u. u .1 .1 .1 .1 .0) (m7 (c .before) (c .steps .given))
 
       abbrev pub m8 : (before : After-first-few) → (given : s7 .gives (m6 (before .before) (After-first-few·gave before))) → Typed.Mo T10
       m8 = λ before given. s8 .next (m7 before given)
 
-      abbrev pub Need-check-first-requires : Type 0
-      Need-check-first-requires = (c : After-steps) → s9 .asks (m8 (c .before) (c .steps .given))
+      abbrev pub Need-check-requires : Type 0
+      Need-check-requires = (c : After-steps) → s9 .asks (m8 (c .before) (c .steps .given))
 
       abbrev pub m9 : (before : After-steps) → (given : s9 .gives (m8 (before .before) (before .steps .given))) → Typed.Mo T11
       m9 = λ before given. s9 .next (m8 (before .before) (before .steps .given)) given
 
       module _ (before· : After-steps) where
-        abbrev pub After-check-first·own : Type 0
-        After-check-first·own = Called.Called ps·1 r·1 (claims· .3) T10 (record { pos = 1; ty = Syntax.tyRef (Syntax.named 0) Syntax.imm (Syntax.tyInt Syntax.w8); ref = λ x. x }, (record { pos = 2; ty = Syntax.tyRef (Syntax.named 1) Syntax.imm (Syntax.tyInt Syntax.w8); ref = λ x. x }, (record { pos = 8; ty = Syntax.tyRef Syntax.erased Syntax.imm (Memory″.pointee ((Struct″.row StepT.the-type) .written)); ref = λ x. x }, (Num.vAt 4 λ x. x, tt)))) (m8 (before· .before) (before· .steps .given))
+        abbrev pub After-check·own : Type 0
+        After-check·own = Called.Called ps·1 r·1 (claims· .3) T10 (record { pos = 1; ty = Syntax.tyRef (Syntax.named 0) Syntax.imm (Syntax.tyInt Syntax.w8); ref = λ x. x }, (record { pos = 2; ty = Syntax.tyRef (Syntax.named 1) Syntax.imm (Syntax.tyInt Syntax.w8); ref = λ x. x }, (record { pos = 8; ty = Syntax.tyRef Syntax.erased Syntax.imm (Memory″.pointee ((Struct″.row StepT.the-type) .written)); ref = λ x. x }, tt))) (m8 (before· .before) (before· .steps .given))
 
-      pub record After-check-first : Type 0 where
+      pub record After-check : Type 0 where
         pub before : After-steps
-        pub check-first : After-check-first·own before
+        pub check : After-check·own before
 
-      abbrev pub After-check-first·gave : (c : After-check-first) → s9 .gives (m8 (c .before .before) (c .before .steps .given))
-      After-check-first·gave = λ c. Called.given ps·1 r·1 (claims· .3) T10 (record { pos = 1; ty = Syntax.tyRef (Syntax.named 0) Syntax.imm (Syntax.tyInt Syntax.w8); ref = λ x. x }, (record { pos = 2; ty = Syntax.tyRef (Syntax.named 1) Syntax.imm (Syntax.tyInt Syntax.w8); ref = λ x. x }, (record { pos = 8; ty = Syntax.tyRef Syntax.erased Syntax.imm (Memory″.pointee ((Struct″.row StepT.the-type) .written)); ref = λ x. x }, (Num.vAt 4 λ x. x, tt)))) (m8 (c .before .before) (c .before .steps .given)) (c .check-first)
+      abbrev pub After-check·gave : (c : After-check) → s9 .gives (m8 (c .before .before) (c .before .steps .given))
+      After-check·gave = λ c. Called.given ps·1 r·1 (claims· .3) T10 (record { pos = 1; ty = Syntax.tyRef (Syntax.named 0) Syntax.imm (Syntax.tyInt Syntax.w8); ref = λ x. x }, (record { pos = 2; ty = Syntax.tyRef (Syntax.named 1) Syntax.imm (Syntax.tyInt Syntax.w8); ref = λ x. x }, (record { pos = 8; ty = Syntax.tyRef Syntax.erased Syntax.imm (Memory″.pointee ((Struct″.row StepT.the-type) .written)); ref = λ x. x }, tt))) (m8 (c .before .before) (c .before .steps .given)) (c .check)
 
       abbrev pub m10 : (before : After-steps) → (given : s9 .gives (m8 (before .before) (before .steps .given))) → Typed.Mo T12
       m10 = λ before given. s10 (m9 before given)
@@ -552,14 +555,14 @@ module _ (claims· : Claims) where
       m13 = λ before given. s15 (m12 before given)
 
       abbrev pub Need-returns : Type 0
-      Need-returns = (c : After-check-first) → Post· (c .before .before .before .before .before .before .κs) (dens (c .before .before .before .before .before .before .κs) (c .before .before .before .before .before .before .args)) (Function.resV r (c .before .before .before .before .before .before .κs) (m13 (c .before) (After-check-first·gave c) .0)) (Clauses.atExit (Kinds.endedOf 3 ps r) (c .before .before .before .before .before .before .κs) (dens (c .before .before .before .before .before .before .κs) (c .before .before .before .before .before .before .args)) (Enter.lastsP (c .before .before .before .before .before .before .κs) 1 ps xs (dens (c .before .before .before .before .before .before .κs) (c .before .before .before .before .before .before .args)) (m13 (c .before) (After-check-first·gave c) .1)))
+      Need-returns = (c : After-check) → Post· (c .before .before .before .before .before .before .κs) (dens (c .before .before .before .before .before .before .κs) (c .before .before .before .before .before .before .args)) (Function.resV r (c .before .before .before .before .before .before .κs) (m13 (c .before) (After-check·gave c) .0)) (Clauses.atExit (Kinds.endedOf 3 ps r) (c .before .before .before .before .before .before .κs) (dens (c .before .before .before .before .before .before .κs) (c .before .before .before .before .before .before .args)) (Enter.lastsP (c .before .before .before .before .before .before .κs) 1 ps xs (dens (c .before .before .before .before .before .before .κs) (c .before .before .before .before .before .before .args)) (m13 (c .before) (After-check·gave c) .1)))
 
-      module _ (first-few-requires : Need-first-few-requires) (slice-aggregate-check-first : Need-slice-aggregate-check-first) (check-first-requires : Need-check-first-requires) (returns : Need-returns) where
-        lay2 : (c : After-check-first) → at6 (W0 (c .before .before .before .before .before .before .κs) (c .before .before .before .before .before .before .args)) (m9 (c .before) (After-check-first·gave c))
-        lay2 = λ c. ((Path'.refl, (Path'.refl, (Path'.refl, (tt, tt)))), returns record { before = c .before; check-first = c .check-first })
+      module _ (first-few-requires : Need-first-few-requires) (array-share-prefix-steps : Need-array-share-prefix-steps) (slice-aggregate-check : Need-slice-aggregate-check) (check-requires : Need-check-requires) (returns : Need-returns) where
+        lay2 : (c : After-check) → at6 (W0 (c .before .before .before .before .before .before .κs) (c .before .before .before .before .before .before .args)) (m9 (c .before) (After-check·gave c))
+        lay2 = λ c. ((Path'.refl, (Path'.refl, (Path'.refl, (tt, tt)))), returns record { before = c .before; check = c .check })
 
         lay1 : (c : After-first-few) → at12 (W0 (c .before .before .before .before .κs) (c .before .before .before .before .args)) (m4 (c .before) (After-first-few·gave c))
-        lay1 = λ c. λ g. (Relend.count-is T9 7 8 (λ x. x) (λ u. 8) (m7 record { before = c .before; first-few = c .first-few } g) (slice-aggregate-check-first record { before = record { before = c .before; first-few = c .first-few }; steps = record { given = g } }), (check-first-requires record { before = record { before = c .before; first-few = c .first-few }; steps = record { given = g } }, λ g'. lay2 record { before = record { before = record { before = c .before; first-few = c .first-few }; steps = record { given = g } }; check-first = Called.called ps·1 r·1 (claims· .3) T10 (record { pos = 1; ty = Syntax.tyRef (Syntax.named 0) Syntax.imm (Syntax.tyInt Syntax.w8); ref = λ x. x }, (record { pos = 2; ty = Syntax.tyRef (Syntax.named 1) Syntax.imm (Syntax.tyInt Syntax.w8); ref = λ x. x }, (record { pos = 8; ty = Syntax.tyRef Syntax.erased Syntax.imm (Memory″.pointee ((Struct″.row StepT.the-type) .written)); ref = λ x. x }, (Num.vAt 4 λ x. x, tt)))) (m8 record { before = c .before; first-few = c .first-few } g) g' }))
+        lay1 = λ c. (array-share-prefix-steps record { before = c .before; first-few = c .first-few }, λ g. (Relend.count-is T9 7 8 (λ x. x) (λ u. u .1 .1 .1 .1 .0) (m7 record { before = c .before; first-few = c .first-few } g) (slice-aggregate-check record { before = record { before = c .before; first-few = c .first-few }; steps = record { given = g } }), (check-requires record { before = record { before = c .before; first-few = c .first-few }; steps = record { given = g } }, λ g'. lay2 record { before = record { before = record { before = c .before; first-few = c .first-few }; steps = record { given = g } }; check = Called.called ps·1 r·1 (claims· .3) T10 (record { pos = 1; ty = Syntax.tyRef (Syntax.named 0) Syntax.imm (Syntax.tyInt Syntax.w8); ref = λ x. x }, (record { pos = 2; ty = Syntax.tyRef (Syntax.named 1) Syntax.imm (Syntax.tyInt Syntax.w8); ref = λ x. x }, (record { pos = 8; ty = Syntax.tyRef Syntax.erased Syntax.imm (Memory″.pointee ((Struct″.row StepT.the-type) .written)); ref = λ x. x }, tt))) (m8 record { before = c .before; first-few = c .first-few } g) g' })))
 
         pub laid : (c : Start) → at16 (W0 (c .κs) (c .args)) (m0 (c .κs) (c .args))
         laid = λ c. λ g. λ g'. λ g''. (first-few-requires record { before = record { before = record { before = c; shared-slice-known = record { given = g } }; shared-slice-known2 = record { given = g' } }; shared-slice-known3 = record { given = g'' } }, λ g'3. lay1 record { before = record { before = record { before = record { before = c; shared-slice-known = record { given = g } }; shared-slice-known2 = record { given = g' } }; shared-slice-known3 = record { given = g'' } }; first-few = Called.called ps·0 r·0 (claims· .1) T4 (record { pos = 3; ty = Syntax.tyRef (Syntax.named 2) Syntax.imm (Syntax.tyInt Syntax.w8); ref = λ x. x }, tt) (m3 record { before = record { before = c; shared-slice-known = record { given = g } }; shared-slice-known2 = record { given = g' } } g'') g'3 })
@@ -568,6 +571,6 @@ module _ (claims· : Claims) where
           pub asked : (a : Kinds.Dens κs ps) → (good : Kinds.GoodsP κs ps a) → (pre : Pre· κs a) → (bs : List.List Nat.ℕ) → Φ (Any.wantQ 3 ps r xs m κs qs a (Post· κs a)) (Function.init 3 ps r xs m κs qs a)
           asked = λ a good pre bs. laid record { κs = κs; args = record { sheet = a .0; list = a .1 .0; bytes = a .1 .1 .0; count = a .1 .1 .1 .0 }; good = good; fits = record { count = record { fits = good .1 .1 .1 .0 .1 } }; pre = pre }
 
-        module _ {M : Type 1} (𝓤 : URA.URA M) (H : Wp.Heap 𝓤) (A : Atoms.Atoms 𝓤) (W : Kit.Given 𝓤 H A) (𝓣 : Wp.Tables 𝓤 H) (known0 : Plain.Known 𝓤 H A W 𝓣 1 ps·0 r·0 (claims· .0) (claims· .1) "recited::first_few") (known1 : Plain.Known 𝓤 H A W 𝓣 3 ps·1 r·1 (claims· .2) (claims· .3) "surveyor::check_first") where
+        module _ {M : Type 1} (𝓤 : URA.URA M) (H : Wp.Heap 𝓤) (A : Atoms.Atoms 𝓤) (W : Kit.Given 𝓤 H A) (𝓣 : Wp.Tables 𝓤 H) (known0 : Plain.Known 𝓤 H A W 𝓣 1 ps·0 r·0 (claims· .0) (claims· .1) "recited::first_few") (known1 : Plain.Known 𝓤 H A W 𝓣 3 ps·1 r·1 (claims· .2) (claims· .3) "surveyor::check") where
           pub spec : Statement.Triple 𝓤 (Wp.WpFn 𝓤 H (𝓣 .C) (𝓣 .Λ) (Function.fnOf 3 ps r xs m hs body)) (Function.plainOf 𝓤 H A 3 ps r Pre· Post·)
           spec = Plain.t-fn-plain 𝓤 H A W 𝓣 3 ps r xs m hs body (λ κs qs bs. Φ) (λ κs qs bs bd. typed κs qs 𝓤 H A W 𝓣 (known0, known1) bs bd) Pre· Post· asked
