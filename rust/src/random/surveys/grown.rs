@@ -67,14 +67,8 @@ fn leave_out(steps: &mut Vec<Step>, own: usize) {
     }
 }
 
-/// A tie by a walk over something that none may go over, by itself, or of one group.
-pub fn wrong_tie(random: &mut Random) -> Case {
-    let kind = random.below(WILD + 2);
-    let (mut grown, mut tie) = until(random, 2, |grown, random| match kind {
-        WILD => Some(grown.circular(random)),
-        0..=WILD => grown.wild_tie(random, kind),
-        _ => grown.again(random),
-    });
+/// A reason with this tie, either way round, that goes on and closes behind it.
+fn closed_behind(random: &mut Random, mut grown: Grown, mut tie: Step) -> Case {
     if random.coin() {
         turn(&mut tie);
     }
@@ -84,18 +78,22 @@ pub fn wrong_tie(random: &mut Random) -> Case {
     grown.case()
 }
 
+/// A tie by a walk over something that none may go over, by itself, or of one group.
+pub fn wrong_tie(random: &mut Random) -> Case {
+    let kind = random.below(WILD + 2);
+    let (grown, tie) = until(random, 2, |grown, random| match kind {
+        WILD => Some(grown.circular(random)),
+        0..=WILD => grown.wild_tie(random, kind),
+        _ => grown.again(random),
+    });
+    closed_behind(random, grown, tie)
+}
+
 /// A tie of two terms that would be equal applications but for one rule.
 pub fn wrong_functions(random: &mut Random) -> Case {
     let rule = random.below(RULES);
-    let (mut grown, (a, b)) = until(random, 5, |grown, random| grown.but_for(random, rule));
-    let mut tie = Step::by_functions(a, b);
-    if random.coin() {
-        turn(&mut tie);
-    }
-    grown.push(tie);
-    grown.grow(random, 3);
-    grown.close(random);
-    grown.case()
+    let (grown, (a, b)) = until(random, 5, |grown, random| grown.but_for(random, rule));
+    closed_behind(random, grown, Step::by_functions(a, b))
 }
 
 /// A closing step that closes nothing. There are few ties, so that all may be behind it.
