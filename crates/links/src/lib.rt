@@ -99,10 +99,10 @@ pub fn join(links: &mut [u64], t: u8, a: u8, b: u8, c: u64)
 {
     let x = find(links, a);
     let y = find(links, b);
-    let small = size(links, x.top);
-    let large = size(links, y.top);
-    let top = topmost(small, large);
-    if small < large {
+    let left = size(links, x.top);
+    let right = size(links, y.top);
+    let top = topmost(left, right);
+    if left < right {
         let link = word(t, y.top, 0, (c + y.gap + (RANGE - x.gap)) % RANGE);
         hang(links, x.top, link, y.top, top);
     } else {
@@ -120,10 +120,10 @@ fn size(links: &[u64], i: u8) -> u8
 }
 
 // The link of the topmost point of two groups joined.
-fn topmost(small: u8, large: u8) -> u64
-    ensures { λ r. ⌜ r ≡ topOf ((small + large) % 256) ⌝ }
+fn topmost(left: u8, right: u8) -> u64
+    ensures { λ r. ⌜ r ≡ topOf ((left + right) % 256) ⌝ }
 {
-    word(NONE, ((small as u16 + large as u16) % 256) as u8, 0, 0)
+    word(NONE, ((left as u16 + right as u16) % 256) as u8, 0, 0)
 }
 
 // One topmost point goes below the other.
