@@ -3,21 +3,24 @@
 //! and readers of texts: the proved one, the independent one and a quick one.
 //!
 //!     time          a line for each sheet and text: what it is, nanoseconds of each (- for one that isn't built in);
-//!                   and for each reason the number of bounds in its walks
+//!                   for each reason the number of bounds in its walks, and for those over a shared
+//!                   path before it the ties on the path and the function ties that rest on it
 //!     time texts    the same for texts alone
 //!     time smt      the same sheets as questions to an SMT solver, each after a line that says what it is
 //!
 //! A verdict is a call on a sheet that holds, and so makes no list; a first list is a call on one
 //! that clashes, and a reason is one on the same sheet that makes the list and writes a reason for it.
 //! A check is one of the panel's own reason: the independent one is timed from the same bytes, and
-//! from steps that are told already. A reading is a call on a text that is one, and its size the
-//! text's bytes.
+//! from steps that are told already. A shared path is a reason by hand, whose function ties all rest
+//! on one path. A reading is a call on a text that is one, and its size the text's bytes.
 
 use bench::timing::{side_by_side, Side};
 use bench::{quick, SIZES};
 use second::random::sheet::{Kind, Sheet, Term, TermRecord};
 use second::random::texts::TEXTS;
 use second::random::Random;
+#[cfg(feature = "panel")]
+use second::reason::{Bound, Step};
 use second::sheet::{MOST, ROOM};
 use second::text::{Reader, ROOM as SHEET_ROOM};
 use second::Panel;
@@ -29,6 +32,8 @@ fn main() {
         Some("smt") => sheets(true),
         _ => {
             sheets(false);
+            #[cfg(feature = "panel")]
+            shared_paths();
             texts();
         }
     }
@@ -256,7 +261,7 @@ fn reason(name: &str, sheet: &[u8], list: &[u8]) {
     side_by_side(name, [Some(Box::new(reasoned)), proved(sheet)], place);
 }
 
-/// Checks of the panel's own reason. A side's place is whether it says yes.
+/// Checks of the panel's own reason.
 #[cfg(feature = "panel")]
 fn check(name: &str, sheet: &[u8], list: &[u8]) {
     let mut room = vec![0; baruvkesh::REASON_ROOM];
@@ -264,6 +269,14 @@ fn check(name: &str, sheet: &[u8], list: &[u8]) {
         baruvkesh::Reasoned::Written(reason) => reason.step_bytes(),
         other => panic!("{name}: {other:?}"),
     };
+    let bounds = check_bytes(&format!("{name} check"), sheet, list, bytes);
+    println!("{name} bounds\t{bounds}");
+}
+
+/// Checks of the same bytes, which get a yes; a side's place is whether it says so. How many bounds
+/// there are in their walks.
+#[cfg(feature = "panel")]
+fn check_bytes(name: &str, sheet: &[u8], list: &[u8], bytes: &[u8]) -> usize {
     let steps = bench::told::steps(bytes);
     let proved = || u16::from(bench::survey(sheet, list, bytes) == (0, 0));
     let independent = || u16::from(bench::told::answer(sheet, list, bytes) == (0, 0));
@@ -273,11 +286,54 @@ fn check(name: &str, sheet: &[u8], list: &[u8]) {
         Some(Box::new(independent)),
         Some(Box::new(of_steps)),
     ];
-    side_by_side(&format!("{name} check"), sides, 1);
+    side_by_side(name, sides, 1);
     let bounds = steps
         .iter()
         .map(|step| step.first.len() + step.second.len());
-    println!("{name} bounds\t{}", bounds.sum::<usize>());
+    bounds.sum()
+}
+
+/// Checks of reasons whose function ties all rest on one path.
+#[cfg(feature = "panel")]
+fn shared_paths() {
+    for &size in &SIZES {
+        let (sheet, steps) = shared_path(size);
+        let list: Vec<u8> = (0..sheet.entries.len() as u8).collect();
+        let bytes: Vec<u8> = steps.iter().flat_map(|step| step.bytes()).collect();
+        let name = format!("shared path {size}");
+        let bounds = check_bytes(&format!("{name} path"), &sheet.bytes(), &list, &bytes);
+        let count = |kind| steps.iter().filter(|step| step.kind == kind).count();
+        let (ties, functions) = (count(Step::BY_WALKS), count(Step::BY_FUNCTIONS));
+        println!("{name} shared\t{ties}\t{functions}\t{bounds}");
+    }
+}
+
+/// Unknowns that are tied one by one, pairs of applications to the first and to the last of them,
+/// which are tied by that, and a walk that closes over all of these in turn.
+#[cfg(feature = "panel")]
+fn shared_path(size: usize) -> (Sheet, Vec<Step>) {
+    let (mut sheet, mut steps) = (Sheet::new(), Vec::new());
+    let x = sheet.unknowns(size / 3 + 1);
+    for pair in x.windows(2) {
+        let (a, b, entry) = (pair[0], pair[1], Bound::entry(sheet.entries.len() as u8));
+        sheet.equal(a, b, 0);
+        steps.push(Step::by_walks(a.0, b.0, 0, vec![entry], vec![entry.back()]));
+    }
+    let mut pairs = Vec::new();
+    for symbol in 0..(size - x.len()) / 2 {
+        let of = |sheet: &mut Sheet, x| sheet.one(symbol as u8, x);
+        pairs.push((of(&mut sheet, x[0]), of(&mut sheet, x[x.len() - 1])));
+    }
+    let mut round = Vec::new();
+    for (at, &(a, b)) in pairs.iter().enumerate() {
+        let (tie, entry) = (steps.len() as u8, sheet.entries.len() as u8);
+        let (next, _) = pairs[(at + 1) % pairs.len()];
+        sheet.enter([Kind::Under, Kind::AtMost][at.min(1)], b, next, 0);
+        steps.push(Step::by_functions(a.0, b.0));
+        round.extend([Bound::tie(tie), Bound::entry(entry)]);
+    }
+    steps.push(Step::walk(pairs[0].0 .0, round));
+    (sheet, steps)
 }
 
 fn texts() {

@@ -1,6 +1,5 @@
 pub mod Names
 pub mod Marking
-pub mod Listing
+pub mod Having
 pub mod Own
-pub mod Inputs
 pub mod Resting

@@ -60,12 +60,12 @@ kind-is w l = go (w / 256) refl
     go (suc (suc (suc (suc (suc (suc q)))))) e = absurd (omega arith)
 
 -- what is in a list stands at a number in it
-pub in-at : {A : Type 0} (l : List A) (d : A) (x : ℕ) → x < length l → In (getD l x d) l
+in-at : {A : Type 0} (l : List A) (d : A) (x : ℕ) → x < length l → In (getD l x d) l
 in-at [] d x h = absurd (omega arith)
 in-at (a ∷ l) d zero h = here refl
 in-at (a ∷ l) d (suc x) h = later (in-at l d x (omega arith))
 
-pub at-in : {A : Type 0} {l : List A} {a : A} (d : A) → In a l → (x : ℕ) × (x < length l) × (getD l x d ≡ a)
+at-in : {A : Type 0} {l : List A} {a : A} (d : A) → In a l → (x : ℕ) × (x < length l) × (getD l x d ≡ a)
 at-in d (here e) = (0, omega arith, sym e)
 at-in d (later m) = let (x, h, e) = at-in d m in (suc x, omega arith, e)
 

@@ -30,7 +30,7 @@ no-walk : {count : ℕ} (bounds : List ℕ) → count ≡ 0 → walkOf count bou
 unfolding each
 no-walk bounds e = rw e
 
-abbrev NamedIn : (ℕ → Type 0) → Record → ℕ → Type 0
+abbrev pub NamedIn : (ℕ → Type 0) → Record → ℕ → Type 0
 NamedIn Sort r k = Among Sort (r .first) (r .there) k ⊎ Among Sort (r .second) (r .back) k
 
 module _ {r : Record} (F : Formed r) where

@@ -1,24 +1,21 @@
-// What a step of a reason is built on: the entries that it uses itself, and the ties that it rests on, listed.
-// It rests on the paths of links and what they mean, and promises both exactly (specs/Basis.antt).
+// What a step of a reason is built on: the entries that it uses itself, and the ties that it rests on, as a set.
+// It rests on routes and what they mean, and promises both exactly (specs/Basis.antt).
 ghost use mathlib.Core.Path.{_≡_};
 ghost use mathlib.Core.List.{List};
-ghost use Prim.Native.Nat.{ℕ, _+_, _≤_, _<_};
+ghost use Prim.Native.Nat.{ℕ, _≤_, _<_};
 ghost use lib.ListN.{length};
 ghost use Rattle.order.specs.First.{Set};
 ghost use Rattle.sheet.specs.Decode.{sheetOf};
 ghost use Rattle.sheet.specs.Sheet.{countTerms, countEntries, termAt, entryAt};
 ghost use Rattle.reasons.specs.Step.{Step as RuleStep};
 ghost use Rattle.stated.specs.Said.{Formed};
-ghost use Rattle.links.specs.Links.{Room, Written};
-ghost use Rattle.upheld.specs.Ruled.{Asked};
-ghost use Rattle.basis.specs.Basis.{Stands, Standing, OwnMarked, RestsListed, OfEntry, Among, Added, WalkListed, InputRoom, InputWritten};
+ghost use Rattle.routes.specs.Routes.{PathSays};
+ghost use Rattle.basis.specs.Basis.{Lent, Stands, Standing, OwnMarked, RestsOn, OfEntry, OfTie, Among, Added, WalkAdds, InputsSay};
+use sets::Ties;
 use sheet::EntryNumber;
 use sheet::Term;
 use sheet::TermNumber;
 use stated::Step;
-
-// The most ties that a step rests on: those of two walks, or of two paths.
-pub const MOST: usize = 2 * stated::WALK;
 
 // The names of bounds by their kinds: entries are below TERM, ties not below TIE.
 const TERM: u16 = 512;
@@ -53,81 +50,71 @@ fn mark_walk(bounds: &[u16], count: u8, entries: &mut [bool])
     }
 }
 
-// Lists the ties that step n rests on, and answers how many there are.
-pub fn rests(sheet: &[u8], legs: &[u64], links: &[u64], n: u8, s: Step, ties: &mut [u8]) -> usize
-    requires { ⌜ Asked (now sheet) (now legs) (now links) × Standing (now sheet) (now legs) (now links) n s × (length (now ties) ≡ 258) ⌝ }
-    ensures size { λ r. ⌜ (length (now (ties .exit)) ≡ 258) × (r ≤ 258) ⌝ }
-    ensures { λ r. ⌜ ((listed : Set) (steps : List RuleStep) (m : ℕ) → Stands (sheetOf (now (sheet .entry))) listed steps m (now (legs .entry)) (now (links .entry)) n s → RestsListed (sheetOf (now (sheet .entry))) steps n s (now (ties .exit)) r) ⌝ }
+// The ties that a step rests on.
+pub fn rests(sheet: &[u8], links: &[u64], paths: &[u64], s: Step) -> Ties
+    requires { ⌜ Lent (now sheet) (now links) (now paths) × Standing (now sheet) (now links) (now paths) s ⌝ }
+    ensures { λ r. ⌜ ((listed : Set) (steps : List RuleStep) (m : ℕ) (legs : List ℕ) (n : ℕ) → Stands (sheetOf (now (sheet .entry))) listed steps m legs (now (links .entry)) (now (paths .entry)) n s → RestsOn (sheetOf (now (sheet .entry))) steps n s r) ⌝ }
 {
     let kind = s.kind;
     match kind {
-        1 => between_inputs(sheet, legs, links, n, s.a, s.b, ties),
-        3 => between_terms(sheet, legs, links, n, s.a, ties),
+        1 => between_inputs(sheet, links, paths, s.a, s.b),
+        3 => between_terms(sheet, links, paths, s.a),
         _ => {
             let there = s.there;
             let back = s.back;
-            let at = of_walk(&there, s.first, ties, 0);
-            of_walk(&back, s.second, ties, at)
+            let first = of_walk(&there, s.first);
+            let second = of_walk(&back, s.second);
+            sets::either(first, second)
         }
     }
 }
 
 // The ties that a walk goes over.
-fn of_walk(bounds: &[u16], count: u8, ties: &mut [u8], from: usize) -> usize
-    requires { ⌜ (count ≤ length (now bounds)) × (from + count ≤ length (now ties)) ⌝ }
-    ensures { λ r. ⌜ WalkListed count (now (bounds .entry)) (now (ties .entry)) (now (ties .exit)) from r ⌝ }
+fn of_walk(bounds: &[u16], count: u8) -> Ties
+    requires { ⌜ (count ≤ length (now bounds)) × ((t : ℕ) → Among OfTie count (now bounds) t → t < 128) ⌝ }
+    ensures { λ r. ⌜ WalkAdds count (now (bounds .entry)) r ⌝ }
 {
-    let mut at = from;
+    let mut ties = sets::none();
     let mut x = 0;
     while x < count {
         let name = bounds[x as usize];
         if TIE <= name {
-            ties[at] = (name % 256) as u8;
-            at += 1;
+            ties = sets::either(ties, sets::only((name % 256) as u8));
         }
         x += 1;
     }
-    at
+    ties
 }
 
 // The ties on the paths between the arguments of two applications, first with first and second with second.
-fn between_inputs(
-    sheet: &[u8],
-    legs: &[u64],
-    links: &[u64],
-    n: u8,
-    a: u8,
-    b: u8,
-    ties: &mut [u8],
-) -> usize
-    requires { ⌜ Asked (now sheet) (now legs) (now links) × (a < countTerms (sheetOf (now sheet))) × (b < countTerms (sheetOf (now sheet))) ⌝ }
-    requires { ⌜ InputRoom (now legs) (now links) n (termAt (sheetOf (now sheet)) a) (termAt (sheetOf (now sheet)) b) (now ties) ⌝ }
-    ensures { λ r. ⌜ InputWritten (now (legs .entry)) (now (links .entry)) n (termAt (sheetOf (now (sheet .entry))) a) (termAt (sheetOf (now (sheet .entry))) b) (now (ties .entry)) (now (ties .exit)) r ⌝ }
+fn between_inputs(sheet: &[u8], links: &[u64], paths: &[u64], a: u8, b: u8) -> Ties
+    requires { ⌜ Lent (now sheet) (now links) (now paths) × (a < countTerms (sheetOf (now sheet))) × (b < countTerms (sheetOf (now sheet))) ⌝ }
+    ensures { λ r. ⌜ InputsSay (now (links .entry)) (now (paths .entry)) (termAt (sheetOf (now (sheet .entry))) a) (termAt (sheetOf (now (sheet .entry))) b) r ⌝ }
 {
     let f = reading::term_at(sheet, TermNumber(a));
     let g = reading::term_at(sheet, TermNumber(b));
     match f {
         Term::Apply(_, x) => match g {
-            Term::Apply(_, y) => links::path(legs, links, n, x.0, y.0, ties, 0),
-            _ => 0,
+            Term::Apply(_, y) => routes::between(links, paths, x.0, y.0),
+            _ => sets::none(),
         },
         Term::Apply2(_, x, z) => match g {
             Term::Apply2(_, y, w) => {
-                let at = links::path(legs, links, n, x.0, y.0, ties, 0);
-                links::path(legs, links, n, z.0, w.0, ties, at)
+                let first = routes::between(links, paths, x.0, y.0);
+                let second = routes::between(links, paths, z.0, w.0);
+                sets::either(first, second)
             }
-            _ => 0,
+            _ => sets::none(),
         },
-        _ => 0,
+        _ => sets::none(),
     }
 }
 
 // The ties on the path between the terms of an entry.
-fn between_terms(sheet: &[u8], legs: &[u64], links: &[u64], n: u8, e: u8, ties: &mut [u8]) -> usize
-    requires { ⌜ Asked (now sheet) (now legs) (now links) × (e < countEntries (sheetOf (now sheet))) ⌝ }
-    requires { ⌜ Room (now legs) (now links) n (entryAt (sheetOf (now sheet)) e .a) (entryAt (sheetOf (now sheet)) e .b) (now ties) 0 ⌝ }
-    ensures { λ r. ⌜ Written (now (legs .entry)) (now (links .entry)) n (entryAt (sheetOf (now (sheet .entry))) e .a) (entryAt (sheetOf (now (sheet .entry))) e .b) (now (ties .entry)) (now (ties .exit)) 0 r ⌝ }
+fn between_terms(sheet: &[u8], links: &[u64], paths: &[u64], e: u8) -> Ties
+    requires { ⌜ Lent (now sheet) (now links) (now paths) × (e < countEntries (sheetOf (now sheet))) ⌝ }
+    ensures { λ r. ⌜ PathSays (now (links .entry)) (now (paths .entry)) (entryAt (sheetOf (now (sheet .entry))) e .a) (entryAt (sheetOf (now (sheet .entry))) e .b) r ⌝ }
 {
     let entry = reading::entry_at(sheet, EntryNumber(e));
-    links::path(legs, links, n, entry.a.0, entry.b.0, ties, 0)
+    routes::between(links, paths, entry.a.0, entry.b.0)
 }

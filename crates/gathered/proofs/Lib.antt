@@ -1,4 +1,5 @@
 pub mod GatherKinds
 pub mod GatherReads
 pub mod Standing
+pub mod Finding
 pub mod Gathering

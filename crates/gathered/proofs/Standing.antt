@@ -1,4 +1,4 @@
--- What is known of a step that stands: its number fits a byte, its record says it, its walks fit their rows, and what it rests on is earlier.
+-- What is known of a step that stands: its record is there and says it, its walks fit their rows, and what it rests on is earlier.
 -- Assumes nothing.
 use Prim.Native.Nat.{ℕ, zero, suc, _+_, _≤_, _<_}
 use mathlib.Core.Path.{_≡_, refl, _∙_, sym, ap, subst}
@@ -55,14 +55,8 @@ counts most r f few = go (r .kind) refl
     go (suc (suc (suc zero))) e = (omega (arith, f .first (inr e)), omega (arith, f .second (omega (arith, e))))
     go (suc (suc (suc (suc k)))) e = absurd (omega (arith, f .kind, e))
 
-module _ {s : Sheet} {listed : Set} {records : List Record} {last : ℕ} {legs links : List ℕ} (u : Upright s listed records last legs links) where
-  last-fits : (m : ℕ) → last ≡ m → m < 256
-  last-fits zero e = omega arith
-  last-fits (suc m) e = omega (arith, u .known .links-are .each m (omega (arith, e)) .linked)
-
-  pub number-fits : {n : ℕ} → n ≤ last → n < 256
-  number-fits l = omega (arith, last-fits last refl, l)
-
+module _ {s : Sheet} {listed : Set} {records : List Record} {last : ℕ} {legs links paths : List ℕ}
+    (u : Upright s listed records last legs links paths) where
   pub there : {n : ℕ} → n ≤ last → n < length records
   there l = omega (arith, u .there, l)
 
@@ -78,8 +72,8 @@ module _ {s : Sheet} {listed : Set} {records : List Record} {last : ℕ} {legs l
         go (yes q) = inr (rw (e, q) (u .closing))
         go (no q) = inl (subst (λ (k : Step). TieRight s listed (stepsOf records) n k) said (u .known .ties n (omega arith)))
 
-    pub stands : Stands s listed (stepsOf records) last legs links n r
-    stands = record { known = u .known; among = l; is = said; formed = rw e (u .formed n l); right = right }
+    pub stands : Stands s listed (stepsOf records) last legs links paths n r
+    stands = record { known = u .known; traced = u .traced; among = l; is = said; formed = rw e (u .formed n l); right = right }
 
     pub walks-fit : (r .first ≤ 129) × (r .second ≤ 129)
     walks-fit =

@@ -3,7 +3,7 @@
 // It rests on the sheet's terms and entries, knows nothing of tables, and promises of each leg the number that specs/ gives it.
 ghost use mathlib.Core.Path.{_≡_};
 ghost use Prim.Native.Nat.{_+_, _≤_, _<_};
-ghost use lib.ListN.{length, getD, set, take};
+ghost use lib.ListN.{length, set, take};
 ghost use Rattle.order.specs.First.{marked};
 ghost use Rattle.sheet.specs.Decode.{Sized, sheetOf};
 ghost use Rattle.sheet.specs.Says.{termSays, entrySays, biasedSays};
@@ -151,14 +151,6 @@ pub fn lay_tie(legs: &mut [u64], t: u8, a: u8, b: u8, gap: u64)
     ensures { λ _. ⌜ now (legs .exit) ≡ set (now (legs .entry)) (tiePlace + t) (wordOf eitherWay gap a b) ⌝ }
 {
     legs[TIES + t as usize] = word(EITHER, gap, a, b);
-}
-
-// The leg of tie t.
-pub fn tie(legs: &[u64], t: u8) -> u64
-    requires { ⌜ length (now legs) ≡ 768 ⌝ }
-    ensures { λ r. ⌜ r ≡ getD (now (legs .entry)) (tiePlace + t) 0 ⌝ }
-{
-    legs[TIES + t as usize]
 }
 
 // The walk from a point over the first bounds of a row, each a kind times 256 and a number.

@@ -6,7 +6,6 @@ use mathlib.Core.Path.{_≡_, refl}
 use mathlib.Core.Logic.{⊎-elim}
 use mathlib.Core.List.{List}
 use lib.IntN.{ℤ, pos}
-use lib.ListN.{getD}
 use native.Mathlib.Omega.{arith}
 use native.Mathlib.Decide.{ℕ-discrete}
 use Rattle.whole.proofs.Order.{order}
@@ -14,10 +13,10 @@ use Rattle.sheet.specs.Sheet.{Sheet, countTerms}
 use Rattle.reasons.specs.Step.{Step, stepAt}
 use Rattle.reasons.specs.Rules.{Tied}
 use Rattle.reasons.specs.Rules.Tied.{itself}
-use Rattle.legs.specs.Legs.{range, tiePlace}
-use Rattle.links.specs.Links.{root, by, up, side, gap, Climbs}
+use Rattle.legs.specs.Legs.{range}
+use Rattle.links.specs.Links.{root, by, up, gap, Climbs}
 use Rattle.links.specs.Links.Climbs.{stays, rises}
-use Rattle.links.proofs.Paths.{climbs-one}
+use Rattle.links.proofs.Climbing.{climbs-one}
 use Rattle.linked.specs.Known.{Differ, Across, Kin}
 use Rattle.linked.proofs.Gaps.{both-moved, foot-gap, up-gap, down-gap}
 use Rattle.reasons.proofs.Paths.{Grouped, on}
@@ -79,25 +78,24 @@ module _ {links : List ℕ} {t i j z p : ℕ} {c : ℤ} (C : Common links t i j 
   the-gap A B = let R = the-left B in rw (climbs-one (R .climbs) A .1) at (R .differ)
 
 -- the link by tie t, and the climbs of the tie's ends to the points below and above it
-pub record Foot (s : Sheet) (steps : List Step) (legs links : List ℕ) (t : ℕ) : Type 0 where
-  pub point : ℕ
-  pub by-is : by links point ≡ t
-  pub later : t < by links (up links point)
-  pub k : ℕ
-  pub climbs : Climbs links (suc t) point (up links point) k
-  pub lower : ℕ
-  pub lower-point : lower ≤ countTerms s
-  pub upper : ℕ
-  pub upper-point : upper ≤ countTerms s
-  pub d : ℤ
-  pub across : Across (stepAt steps t) (getD legs (tiePlace + t) 0) (side links point) lower upper d
-  pub p : ℕ
-  pub low : Climbs links t lower point p
-  pub q : ℕ
-  pub high : Climbs links t upper (up links point) q
-  pub differ : Differ (k + p) q d
+record Foot (s : Sheet) (steps : List Step) (links : List ℕ) (t : ℕ) : Type 0 where
+  point : ℕ
+  later : t < by links (up links point)
+  k : ℕ
+  climbs : Climbs links (suc t) point (up links point) k
+  lower : ℕ
+  lower-point : lower ≤ countTerms s
+  upper : ℕ
+  upper-point : upper ≤ countTerms s
+  d : ℤ
+  across : Across (stepAt steps t) lower upper d
+  p : ℕ
+  low : Climbs links t lower point p
+  q : ℕ
+  high : Climbs links t upper (up links point) q
+  differ : Differ (k + p) q d
 
-module _ {s : Sheet} {steps : List Step} {n : ℕ} {legs links : List ℕ} (K : Kin s steps n legs links) where
+module _ {s : Sheet} {steps : List Step} {n : ℕ} {links : List ℕ} (K : Kin s steps n links) where
   -- the first n ties have links, so they are few
   pub ties-small : n ≤ root
   ties-small = ⊎-elim (λ h. omega arith) (λ h. omega (arith, K .each (n - 1) (omega arith) .linked)) (order n 0)
@@ -143,8 +141,8 @@ module _ {s : Sheet} {steps : List Step} {n : ℕ} {legs links : List ℕ} (K : 
   abbrev Climb : ℕ → Type 0
   Climb t = (i j : ℕ) (c : ℤ) (p : List ℕ) → i ≤ countTerms s → Tied steps t i j c p → Common links t i j c
 
-  foot-from : (t : ℕ) → t < n → Climb t → Foot s steps legs links t
-  foot-from t l f =
+  foot : (t : ℕ) → t < n → Climb t → Foot s steps links t
+  foot t l f =
       let record { point = z; there = there; by-is = e; linked = m } = K .each t l in
       let H = K .hangs z t there e m in
       let r = K .rising .later z there (omega arith) in
@@ -153,7 +151,6 @@ module _ {s : Sheet} {steps : List Step} {n : ℕ} {legs links : List ℕ} (K : 
       let same : gap links z ≡ (gap links z + 0) % range = omega arith in
       record {
         point = z;
-        by-is = e;
         later = omega arith;
         k = (gap links z + 0) % range;
         climbs = rises {i = z} (omega arith) (stays {i = up links z} (omega arith));
@@ -171,7 +168,7 @@ module _ {s : Sheet} {steps : List Step} {n : ℕ} {legs links : List ℕ} (K : 
       }
 
   -- across the last tie, up or down, or not at all
-  module _ (t : ℕ) (l : t < n) (f : Climb t) (F : Foot s steps legs links t) where
+  module _ (t : ℕ) (l : t < n) (f : Climb t) (F : Foot s steps links t) where
     over : (i j : ℕ) (c : ℤ) (p : List ℕ) → i ≤ countTerms s → Last steps t (F .lower) (F .upper) (F .d) i j c p → Common links (suc t) i j c
     over i j c p h (earlier T) =
         let C = f i j c p h T in
@@ -200,8 +197,5 @@ module _ {s : Sheet} {steps : List Step} {n : ℕ} {legs links : List ℕ} (K : 
       record { top = i; g = 0; left = C; h = 0; right = C; differ = record { less = 0; more = 0; is = refl } }
   common (suc t) l i j c p h T =
       let f = common t (omega arith) in
-      let F = foot-from t l f in
+      let F = foot t l f in
       over t l f F i j c p h (last (F .across) T)
-
-  pub foot : (t : ℕ) → t < n → Foot s steps legs links t
-  foot t l = foot-from t l (common t (omega arith))

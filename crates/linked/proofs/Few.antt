@@ -1,4 +1,5 @@
--- The ties of a path are different ones, so they are few, and the gap along them is within 2^38. And the ties are fewer than the points.
+-- The ties of a path are different ones of the first n, so they are few, and the gap along them is within 2^38. And the ties are fewer
+-- than the points.
 -- Assumes nothing.
 use Prim.Native.Nat.{ℕ, zero, suc, _+_, _*_, _^_, _≤_, _<_}
 use mathlib.Core.Path.{_≡_, refl, sym, ap}
@@ -77,7 +78,10 @@ module _ {steps : List Step} where
   touched (back {n = n} {p} {q} h t k) m =
       touched-joined p q t (group (back h t (itself-at n .tied))) (group (back h t (itself-at n .tied))) (λ l. touched h l) (λ l. touched k l) m
 
-  distinct : {n i j : ℕ} {c : ℤ} {p : List ℕ} → ((t : ℕ) → t < n → JoinsTwo steps t) → Tied steps n i j c p → Distinct p
+  pub path-below : {n i j u : ℕ} {c : ℤ} {p : List ℕ} → Tied steps n i j c p → In u p → u < n
+  path-below h m = touched h m .below
+
+  pub distinct : {n i j : ℕ} {c : ℤ} {p : List ℕ} → ((t : ℕ) → t < n → JoinsTwo steps t) → Tied steps n i j c p → Distinct p
   distinct r itself = end
   distinct r (before h) = distinct (λ t l. r t (omega arith)) h
   distinct r (forth {n = n} {a = a} {b = b} {d = d} {p = p} {q} h t k) =
@@ -108,9 +112,9 @@ within-over c d e n p q x y z =
 
 module _ {s : Sheet} {listed : Set} {steps : List Step} where
   -- the ties of a path are at most as many as there are
-  pub path-short : {n t i j : ℕ} {c : ℤ} {p : List ℕ} → ((u : ℕ) → u < n → TieRight s listed steps u (stepAt steps u)) → t ≤ n →
-      Tied steps t i j c p → length p ≤ n
-  path-short {n} r l h = pigeon n (distinct (λ u k. right-joins (r u (omega arith))) h) (λ u m. omega (arith, touched h m .below))
+  pub path-short : {n i j : ℕ} {c : ℤ} {p : List ℕ} → ((u : ℕ) → u < n → TieRight s listed steps u (stepAt steps u)) → Tied steps n i j c p →
+      length p ≤ n
+  path-short {n} r h = pigeon n (distinct (λ u l. right-joins (r u l)) h) (λ u m. path-below h m)
 
   -- and the gap along it is that many times 2^31 at most
   pub gap-short : {t i j : ℕ} {c : ℤ} {p : List ℕ} → ((u : ℕ) → u < t → TieRight s listed steps u (stepAt steps u)) → Tied steps t i j c p →
@@ -123,7 +127,7 @@ module _ {s : Sheet} {listed : Set} {steps : List Step} where
       within-over c (negℤ d) e n p q (gap-short (λ u l. r u (omega arith)) h) (within-neg d (ties-within (r n (omega arith)) t))
       (gap-short (λ u l. r u (omega arith)) k)
 
-module _ {s : Sheet} {steps : List Step} {n : ℕ} {legs links : List ℕ} (K : Kin s steps n legs links) where
+module _ {s : Sheet} {steps : List Step} {n : ℕ} {links : List ℕ} (K : Kin s steps n links) where
   -- m points that are linked by the first t ties
   record Points (m t : ℕ) : Type 0 where
     points : List ℕ

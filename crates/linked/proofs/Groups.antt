@@ -1,4 +1,4 @@
--- Groups by the rules: what is tied is tied either way round, and on from there, and stays so.
+-- Groups by the rules: each point is of its own, what is tied stays so, and one tie more joins the groups of its two ends and no others.
 -- Assumes nothing.
 use Prim.Native.Nat.{ℕ, zero, suc, _≤_}
 use mathlib.Core.Path.{_≡_, refl}
@@ -36,19 +36,19 @@ module _ {steps : List Step} where
   lifted (suc n) {t} l h = ⊎-elim (λ e. rw e at h) (λ k. before (lifted n (omega arith) h)) (eq-or-lt-of-le {n = t} {m = suc n} l)
 
   -- over a step's tie, from the end below its link to that above
-  pub across-tied : {n leg side lower upper i j : ℕ} {c d e : ℤ} {p q : List ℕ} → Tied steps n i lower c p →
-      Across (stepAt steps n) leg side lower upper d → Tied steps n upper j e q → Tied steps (suc n) i j (c +ℤ (d +ℤ e)) (p ++ n ∷ q)
-  across-tied h (first-below t l r) k = forth h t k
-  across-tied h (second-below t l r) k = back h t k
+  pub across-tied : {n lower upper i j : ℕ} {c d e : ℤ} {p q : List ℕ} → Tied steps n i lower c p →
+      Across (stepAt steps n) lower upper d → Tied steps n upper j e q → Tied steps (suc n) i j (c +ℤ (d +ℤ e)) (p ++ n ∷ q)
+  across-tied h (first-below t) k = forth h t k
+  across-tied h (second-below t) k = back h t k
 
-  pub last : {t leg side lower upper i j : ℕ} {c d : ℤ} {p : List ℕ} → Across (stepAt steps t) leg side lower upper d →
+  pub last : {t lower upper i j : ℕ} {c d : ℤ} {p : List ℕ} → Across (stepAt steps t) lower upper d →
       Tied steps (suc t) i j c p → Last steps t lower upper d i j c p
   last A (before h) = earlier h
-  last (first-below u l r) (forth h t k) =
+  last (first-below u) (forth h t k) =
       let S = ties-one t u in upwards (rw (S .left) at h) (rw (S .right) at k) (rw (S .gap) refl)
-  last (first-below u l r) (back h t k) =
+  last (first-below u) (back h t k) =
       let S = ties-one t u in downwards (rw (S .right) at h) (rw (S .left) at k) (rw (S .gap) refl)
-  last (second-below u l r) (forth h t k) =
+  last (second-below u) (forth h t k) =
       let S = ties-one t u in downwards (rw (S .left) at h) (rw (S .right) at k) (rw (S .gap, neg-neg) refl)
-  last (second-below u l r) (back h t k) =
+  last (second-below u) (back h t k) =
       let S = ties-one t u in upwards (rw (S .right) at h) (rw (S .left) at k) (rw (S .gap) refl)

@@ -14,22 +14,19 @@ use Rattle.reasons.specs.Step.{Step, stepAt}
 use Rattle.reasons.specs.Rules.{Ties, TieWithin, TieRight}
 use Rattle.reasons.proofs.Paths.{right-joins}
 use Rattle.legs.specs.Legs.{gapFor, wordOf, eitherWay, tiePlace}
-use Rattle.links.specs.Links.{topOf, Rising, Earlier, Joined}
+use Rattle.links.specs.Links.{topOf, Rising, Joined}
 use Rattle.strides.specs.Trodden.{Trodden}
 use Rattle.strides.proofs.Told.{trodden-tie}
 use Rattle.linked.specs.Known.{Kin, Known}
 use Rattle.linked.proofs.Few.{kin-few}
 use Rattle.linked.proofs.Joins.{kin-start, kin-join}
 
-module _ {s : Sheet} {steps : List Step} {n : ℕ} {legs links : List ℕ} (K : Kin s steps n legs links) where
+module _ {s : Sheet} {steps : List Step} {n : ℕ} {links : List ℕ} (K : Kin s steps n links) where
   pub kin-size : length links ≡ 256
   kin-size = K .size
 
   pub kin-rising : Rising links
   kin-rising = K .rising
-
-  pub kin-earlier : Earlier links n
-  kin-earlier = K .earlier
 
 pub known-start : {s : Sheet} {listed : Set} {steps : List Step} {legs : List ℕ} → Trodden s listed steps 0 legs → WellFormed s →
     Known s listed steps 0 legs (replicate 256 (topOf 1))
@@ -44,6 +41,6 @@ known-next {s} {listed} {steps} {n} {a = a} {b} {c} K wf r t w p q joined =
     let terms = wf .terms in
     record {
       legs-are = trodden-tie (K .legs-are) (omega arith) t w (omega arith) (omega arith);
-      links-are = kin-join terms (K .legs-are .size) (K .links-are) p q (right-joins r .apart a b c t) t w joined;
+      links-are = kin-join (K .links-are) p q (right-joins r .apart a b c t) t w joined;
       ties = λ u l. ⊎-elim (λ e. rw e r) (λ m. K .ties u m) (eq-or-lt-of-le {n = u} {m = n} (omega arith));
     }

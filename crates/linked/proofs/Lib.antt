@@ -1,7 +1,6 @@
 pub mod Gaps
 pub mod Groups
 pub mod Common
-pub mod Ways
 pub mod Few
 pub mod Told
 pub mod Joins

@@ -1,10 +1,10 @@
 -- There are at most T right ties: their links can be made one by one.
 -- Assumes nothing.
-use Prim.Native.Nat.{ℕ, zero, suc, _+_, _%_, _≤_, _<_}
-use mathlib.Core.Path.{_≡_, refl, _∙_}
+use Prim.Native.Nat.{ℕ, zero, suc, _≤_, _<_}
+use mathlib.Core.Path.{refl}
 use mathlib.Core.Logic.{_⊎_, inl, inr}
 use mathlib.Core.List.{List}
-use lib.ListN.{length, getD, set, replicate, length-set}
+use lib.ListN.{replicate}
 use lib.IntN.{ℤ, pos}
 use native.Mathlib.Omega.{arith}
 use Rattle.whole.proofs.Order.{order}
@@ -14,8 +14,7 @@ use Rattle.reasons.specs.Step.{Step, stepAt}
 use Rattle.reasons.specs.Rules.{Ties, TieWithin, Apart, TieRight}
 use Rattle.reasons.specs.Rules.Ties.{walks, functions}
 use Rattle.reasons.specs.Rules.TieRight.{by-walks, by-functions}
-use Rattle.legs.specs.Legs.{gapFor, wordOf, eitherWay, tiePlace}
-use Rattle.links.specs.Links.{root, by, up, Earlier, Climbs, Joined, stays, rises, topOf}
+use Rattle.links.specs.Links.{root, by, Earlier, Climbs, stays, rises, topOf}
 use Rattle.links.specs.Links.Joined.{first-below}
 use Rattle.linked.specs.Known.{Kin}
 use Rattle.linked.proofs.Groups.{itself-at}
@@ -49,23 +48,20 @@ whole {links} {n} E l m (stays {i = i} h) = stays {i = i} (go (order root (by li
 whole {links} E l m (rises {i = i} h C) = rises {i = i} (omega arith) (whole E l (omega arith) C)
 
 -- each point climbs
-climbs : {s : Sheet} {steps : List Step} {n : ℕ} {legs links : List ℕ} → Kin s steps n legs links → (i : ℕ) → i ≤ countTerms s →
+climbs : {s : Sheet} {steps : List Step} {n : ℕ} {links : List ℕ} → Kin s steps n links → (i : ℕ) → i ≤ countTerms s →
     (c : ℤ) × Common links n i i c
 climbs {steps = steps} {n} K i l = let G = itself-at {steps = steps} n {i = i} in (G .gap, common K n (omega arith) i i (G .gap) (G .path) l (G .tied))
 
--- the legs and links of the first n ties
+-- the links of the first n ties
 record Made (s : Sheet) (steps : List Step) (n : ℕ) : Type 0 where
-  legs : List ℕ
   links : List ℕ
-  size : length legs ≡ 768
-  kin : Kin s steps n legs links
+  kin : Kin s steps n links
 
 module _ (s : Sheet) (S : Set) (steps : List Step) (terms : countTerms s ≤ 128) where
   made : (n : ℕ) → ((t : ℕ) → t < n → TieRight s S steps t (stepAt steps t)) → Made s steps n
-  made zero r = record { legs = replicate 768 0; links = replicate 256 (topOf 1); size = refl; kin = kin-start terms }
+  made zero r = record { links = replicate 256 (topOf 1); kin = kin-start terms }
   made (suc n) r =
-      let M = made n (λ t l. r t (omega arith)) in
-      let K = M .kin in
+      let K = made n (λ t l. r t (omega arith)) .kin in
       let few = kin-few K in
       let t = tie-of (r n (omega arith)) in
       let A = climbs K (t .a) (t .left) in
@@ -73,11 +69,9 @@ module _ (s : Sheet) (S : Set) (steps : List Step) (terms : countTerms s ≤ 128
       let a = t .left in
       let b = t .right in
       record {
-        legs = set (M .legs) (tiePlace + n) (wordOf eitherWay (gapFor (t .c)) (t .a) (t .b));
         links = _;
-        size = length-set (M .legs) _ _ ∙ M .size;
         kin =
-            kin-join terms (M .size) K a b (t .apart) (t .ties) (t .within)
+            kin-join K a b (t .apart) (t .ties) (t .within)
             (first-below {size = 0} (whole (K .earlier) (omega arith) (omega arith) (A .1 .left)) (whole (K .earlier) (omega arith) (omega arith) (B .1 .left)) (omega arith) refl);
       }
 

@@ -10,10 +10,10 @@ use Rattle.order.specs.First.{Set}
 use Rattle.sheet.specs.Sheet.{Sheet, countTerms}
 use Rattle.reasons.specs.Step.{Step, stepAt}
 use Rattle.reasons.specs.Rules.{Ties, Tied, Apart, TieRight}
-use Rattle.legs.specs.Legs.{range, gapFor, fromOf, toOf, tiePlace}
+use Rattle.legs.specs.Legs.{range, gapFor}
 use Rattle.links.specs.declared.Apartness.{Apartness}
 use Rattle.links.specs.declared.Apartness.the-variants.{Apart as TwoGroups, Tied as OneGroup}
-use Rattle.links.specs.Links.{root, upOf, sideOf, gapOf, by, Rising, Earlier}
+use Rattle.links.specs.Links.{root, upOf, gapOf, by, Rising, Earlier}
 use Rattle.strides.specs.Trodden.{Trodden}
 
 -- two gaps differ by c, but for multiples of the range
@@ -22,14 +22,14 @@ pub record Differ (g h : ℕ) (c : ℤ) : Type 0 where
   pub more : ℕ
   pub is : g + minus c + less * range ≡ h + plus c + more * range
 
--- a step ties the end below a link to that above it, which differ by d; its leg has both, and the link says which end lies below
-pub data Across (k : Step) (leg : ℕ) : (side below above : ℕ) (d : ℤ) → Type 0 where
-  first-below : {a b : ℕ} {c : ℤ} → Ties k a b c → fromOf leg ≡ a → toOf leg ≡ b → Across k leg 0 a b c
-  second-below : {a b : ℕ} {c : ℤ} → Ties k a b c → fromOf leg ≡ a → toOf leg ≡ b → Across k leg 1 b a (negℤ c)
+-- a step ties the end below a link to that above it, which differ by d
+pub data Across (k : Step) : (below above : ℕ) (d : ℤ) → Type 0 where
+  first-below : {a b : ℕ} {c : ℤ} → Ties k a b c → Across k a b c
+  second-below : {a b : ℕ} {c : ℤ} → Ties k a b c → Across k b a (negℤ c)
 
 -- the link of point i by tie t: before it, i was of the group of the end below, and the point above i of that of the other end; the
 -- link's gap is that along all three
-pub record Hangs (s : Sheet) (steps : List Step) (t leg i link : ℕ) : Type 0 where
+pub record Hangs (s : Sheet) (steps : List Step) (t i link : ℕ) : Type 0 where
   pub point : i ≤ countTerms s
   pub above : upOf link ≤ countTerms s
   pub lower : ℕ
@@ -37,7 +37,7 @@ pub record Hangs (s : Sheet) (steps : List Step) (t leg i link : ℕ) : Type 0 w
   pub upper : ℕ
   pub upper-point : upper ≤ countTerms s
   pub d : ℤ
-  pub across : Across (stepAt steps t) leg (sideOf link) lower upper d
+  pub across : Across (stepAt steps t) lower upper d
   pub c : ℤ
   pub first : List ℕ
   pub to-lower : Tied steps t i lower c first
@@ -54,18 +54,18 @@ pub record LinkedBy (links : List ℕ) (t : ℕ) : Type 0 where
   pub linked : t < root
 
 -- the links of the first n ties, one of each, and of nothing else: so those by the first t of them have the groups after t ties
-pub record Kin (s : Sheet) (steps : List Step) (n : ℕ) (legs links : List ℕ) : Type 0 where
+pub record Kin (s : Sheet) (steps : List Step) (n : ℕ) (links : List ℕ) : Type 0 where
   pub terms : countTerms s ≤ 128
   pub size : length links ≡ 256
   pub rising : Rising links
   pub earlier : Earlier links n
-  pub hangs : (i t : ℕ) → i < 256 → by links i ≡ t → t < root → Hangs s steps t (getD legs (tiePlace + t) 0) i (getD links i 0)
+  pub hangs : (i t : ℕ) → i < 256 → by links i ≡ t → t < root → Hangs s steps t i (getD links i 0)
   pub each : (t : ℕ) → t < n → LinkedBy links t
 
 -- what is known of the first n steps, all of them ties, before the next one is looked at
 pub record Known (s : Sheet) (listed : Set) (steps : List Step) (n : ℕ) (legs links : List ℕ) : Type 0 where
   pub legs-are : Trodden s listed steps n legs
-  pub links-are : Kin s steps n legs links
+  pub links-are : Kin s steps n links
   pub ties : (t : ℕ) → t < n → TieRight s listed steps t (stepAt steps t)
 
 -- what an answer on two points says by the rules: two groups, or one and the gap

@@ -1,4 +1,5 @@
--- A climb on its way: what is above the point that it has come to is above the point that it began at.
+-- A climb is one for its point, and its gap is within the range. A climb on its way: what is above the point that it has come to is
+-- above the point that it began at.
 -- Assumes nothing.
 use Prim.Native.Nat.{ℕ, _+_, _-_, _%_, _<_}
 use mathlib.Core.Path.{_≡_, refl, sym, ap, subst, _∙_}
@@ -18,6 +19,12 @@ module _ {links : List ℕ} where
   pub gap-small : {t i x g : ℕ} → Climbs links t i x g → g < range
   gap-small (stays h) = omega arith
   gap-small (rises h C) = omega arith
+
+  pub climbs-one : {t i x y g h : ℕ} → Climbs links t i x g → Climbs links t i y h → (x ≡ y) × (g ≡ h)
+  climbs-one (stays p) (stays q) = (refl, refl)
+  climbs-one (stays p) (rises q D) = absurd (omega arith)
+  climbs-one (rises p C) (stays q) = absurd (omega arith)
+  climbs-one {i = i} (rises p C) (rises q D) = let e = climbs-one C D in (e .0, ap (λ (k : ℕ). (gap links i + k) % range) (e .1))
 
   pub climbs-begin : {i : ℕ} → i < 256 → Climbing links i i 0 (getD links i 0)
   climbs-begin {i} h = record { place = h; link-is = refl; small = omega arith; on = on }

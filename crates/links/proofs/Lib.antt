@@ -1,5 +1,3 @@
 pub mod Words
-pub mod Paths
 pub mod Climbing
-pub mod Nearing
-pub mod Writing
+pub mod Hanging

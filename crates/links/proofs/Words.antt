@@ -4,17 +4,14 @@ use Prim.Native.Nat.{ℕ, _<_}
 use mathlib.Core.Path.{_≡_}
 use native.Mathlib.Omega.{arith}
 use Rattle.legs.specs.Legs.{range}
-use Rattle.links.specs.Links.{linkOf, byOf, upOf, sideOf, gapOf}
+use Rattle.links.specs.Links.{linkOf, byOf, upOf, gapOf}
 
-module _ (by up side gap : ℕ) (b : by < 256) (u : up < 256) (s : side < 256) (g : gap < range) where
-  pub by-link : byOf (linkOf by up side gap) ≡ by
+module _ (by up gap : ℕ) (b : by < 256) (u : up < 256) (g : gap < range) where
+  pub by-link : byOf (linkOf by up gap) ≡ by
   by-link = omega arith
 
-  pub up-link : upOf (linkOf by up side gap) ≡ up
+  pub up-link : upOf (linkOf by up gap) ≡ up
   up-link = omega arith
 
-  pub side-link : sideOf (linkOf by up side gap) ≡ side
-  side-link = omega arith
-
-  pub gap-link : gapOf (linkOf by up side gap) ≡ gap
+  pub gap-link : gapOf (linkOf by up gap) ≡ gap
   gap-link = omega arith

@@ -1,15 +1,17 @@
 -- Sums of gaps: two's complement of five bytes adds up, forwards and backwards, within half of its range.
 -- Assumes nothing.
-use Prim.Native.Nat.{ℕ, _+_, _-_, _*_, _%_, _≤_, _<_}
+use Prim.Native.Nat.{ℕ, _+_, _-_, _*_, _%_, _^_, _≤_, _<_}
 use mathlib.Core.Path.{_≡_}
-use mathlib.Core.Logic.{_⊎_, inl, inr}
-use lib.IntN.{ℤ, pos, negsuc, negℤ, _+ℤ_}
+use mathlib.Core.Logic.{_⊎_, inl, inr, ⊎-elim}
+use lib.IntN.{ℤ, pos, negsuc, negℤ, subℕ, _+ℤ_}
 use native.Mathlib.Omega.{arith}
 use Rattle.whole.specs.Whole.{plus, minus}
 use Rattle.whole.proofs.Order.{order}
-use Rattle.whole.proofs.Parts.{add-parts, neg-plus, neg-minus}
-use Rattle.big.specs.Big.{complementOf}
+use Rattle.whole.proofs.Parts.{sub-parts, add-parts, neg-plus, neg-minus}
+use Rattle.big.specs.Big.{signedOf, complementOf}
+use Rattle.big.proofs.Signed.{signed-low, signed-high}
 use Rattle.big.proofs.Bytes.{complement-difference}
+use Rattle.reasons.specs.Rules.{TieWithin}
 use Rattle.legs.specs.Legs.{range, gapFor}
 
 -- of all the p and m whose difference a whole number is, its parts are least
@@ -48,3 +50,22 @@ module _ (x y : ℤ) where
       let q = gap-parts y (omega arith) (omega arith) in
       wrapped (gapFor x + (range - gapFor y)) (wraps x + (1 - wraps y)) (plus x + minus y) (minus x + plus y) (x +ℤ negℤ y)
       (omega (arith, add-parts x (negℤ y), neg-plus y, neg-minus y)) (omega arith) up down
+
+-- the c of a tie, as eight bytes, is its gap but for the range
+pub tie-gap : (c : ℕ) → TieWithin (signedOf 8 c) → c % range ≡ gapFor (signedOf 8 c)
+tie-gap c w = ⊎-elim high low (order (2 ^ 64) (2 * c))
+  where
+    low : 2 * c < 2 ^ 64 → c % range ≡ gapFor (signedOf 8 c)
+    low h =
+        let (p, m) = parts-most (subℕ c 0) c 0 (sub-parts c 0) in
+        let e = sub-parts c 0 in
+        let (a, b) : TieWithin (subℕ c 0) = rw (signed-low 8 c h) at w in
+        rw (signed-low 8 c h) (complement-difference 5 (c % range) c 0 (subℕ c 0) e (omega arith) (inl (omega arith)))
+
+    high : 2 ^ 64 ≤ 2 * c → c % range ≡ gapFor (signedOf 8 c)
+    high h =
+        let e = sub-parts c (2 ^ 64) in
+        let (a, b) : TieWithin (subℕ c (2 ^ 64)) = rw (signed-high 8 c h) at w in
+        rw (signed-high 8 c h)
+        (complement-difference 5 (c % range) (c + 2 ^ 31 - 2 ^ 64) (2 ^ 31) (subℕ c (2 ^ 64)) (omega arith) (omega arith)
+        (⊎-elim (λ l. inl (omega arith)) (λ l. inr (omega arith)) (order (2 ^ 64) c)))

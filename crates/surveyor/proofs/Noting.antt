@@ -1,24 +1,19 @@
--- The steps that have passed: none, and one more by a right tie that is noted, since its record's c, but for the range, is the tie's gap.
+-- The steps that have passed: none, and one more by a right tie that is noted.
 -- Assumes nothing.
-use Prim.Native.Nat.{ℕ, _+_, _-_, _*_, _%_, _^_, _≤_, _<_}
+use Prim.Native.Nat.{ℕ, _+_, _%_, _≤_, _<_}
 use mathlib.Core.Path.{_≡_, refl, sym, ap, _∙_}
-use mathlib.Core.Logic.{inl, inr, ⊎-elim}
 use mathlib.Core.Bool.{Bool}
 use mathlib.Core.List.{List}
-use lib.IntN.{ℤ, pos, subℕ}
+use lib.IntN.{ℤ, pos}
 use lib.ListN.{length, set, replicate, length-replicate}
 use native.Mathlib.Numerals.{add-one}
 use native.Mathlib.Omega.{arith}
 use native.Mathlib.Decide.{ℕ-discrete}
-use Rattle.whole.proofs.Order.{order}
-use Rattle.whole.proofs.Parts.{sub-parts}
 use Rattle.big.specs.Big.{signedOf, complementOf}
-use Rattle.big.proofs.Signed.{signed-low, signed-high}
-use Rattle.big.proofs.Bytes.{complement-difference}
 use Rattle.order.specs.First.{Set, marked}
 use Rattle.sheet.specs.Decode.{sheetOf}
 use Rattle.sheet.specs.Sheet.{Sheet, countTerms, WellFormed}
-use Rattle.reasons.specs.Step.{Bound, Step, byWalks, byFunctions, closingWalk, closingEntry}
+use Rattle.reasons.specs.Step.{Bound, Step, byWalks, byFunctions, closingWalk, closingEntry, stepAt}
 use Rattle.reasons.specs.Rules.{Ties, TieWithin, TieRight, Closing}
 use Rattle.reasons.specs.Rules.Ties.{walks, functions}
 use Rattle.reasons.specs.Rules.TieRight.{by-walks, by-functions}
@@ -28,30 +23,15 @@ use Rattle.stated.specs.declared.Step.{Step as Record}
 use Rattle.stated.proofs.Said.{step-said}
 use Rattle.legs.specs.Legs.{range, gapFor, wordOf, eitherWay, tiePlace}
 use Rattle.links.specs.Links.{topOf, Joined}
-use Rattle.strides.proofs.Gaps.{parts-most}
+use Rattle.routes.specs.Routes.{LaidPath}
+use Rattle.strides.proofs.Gaps.{tie-gap}
 use Rattle.strides.proofs.Told.{trodden-start}
 use Rattle.linked.proofs.Known.{known-start, known-next}
+use Rattle.linked.proofs.Ties.{few-ties}
+use Rattle.traced.proofs.Told.{traced-start, traced-next}
 use Rattle.upheld.specs.Ruled.{RightTie}
 use Rattle.surveyor.specs.Inside.{Begun, Passed}
 use Rattle.surveyor.proofs.Marking.{all-blank}
-
-gap-said : (c : ℕ) → TieWithin (signedOf 8 c) → c % range ≡ gapFor (signedOf 8 c)
-gap-said c w = ⊎-elim high low (order (2 ^ 64) (2 * c))
-  where
-    low : 2 * c < 2 ^ 64 → c % range ≡ gapFor (signedOf 8 c)
-    low h =
-        let (p, m) = parts-most (subℕ c 0) c 0 (sub-parts c 0) in
-        let e = sub-parts c 0 in
-        let (a, b) : TieWithin (subℕ c 0) = rw (signed-low 8 c h) at w in
-        rw (signed-low 8 c h) (complement-difference 5 (c % range) c 0 (subℕ c 0) e (omega arith) (inl (omega arith)))
-
-    high : 2 ^ 64 ≤ 2 * c → c % range ≡ gapFor (signedOf 8 c)
-    high h =
-        let e = sub-parts c (2 ^ 64) in
-        let (a, b) : TieWithin (subℕ c (2 ^ 64)) = rw (signed-high 8 c h) at w in
-        rw (signed-high 8 c h)
-        (complement-difference 5 (c % range) (c + 2 ^ 31 - 2 ^ 64) (2 ^ 31) (subℕ c (2 ^ 64)) (omega arith) (omega arith)
-        (⊎-elim (λ l. inl (omega arith)) (λ l. inr (omega arith)) (order (2 ^ 64) c)))
 
 -- what the record of a right tie says
 record TieSaid (s : Sheet) (r : Record) : Type 0 where
@@ -89,7 +69,7 @@ tie-said {s} {r = r} R = kind (ℕ-discrete (r .kind) 0) (ℕ-discrete (r .kind)
     kind : Dec (r .kind ≡ 0) → Dec (r .kind ≡ 1) → Dec (r .kind ≡ 2) → TieSaid s r
     kind (yes e) _ _ =
         let (w, p, q) = walks-within (rw e at (R .right)) in
-        record { c = signedOf 8 (r .c); ties = rw e walks; within = w; left = p; right = q; gap-is = gap-said (r .c) w }
+        record { c = signedOf 8 (r .c); ties = rw e walks; within = w; left = p; right = q; gap-is = tie-gap (r .c) w }
     kind (no _) (yes e) _ =
         let (p, q) = functions-within (rw e at (R .right)) in
         let z = R .formed .c (omega arith) in
@@ -102,26 +82,42 @@ pub laid-size : {sheet : List ℕ} {listed : List Bool} {legs : List ℕ} → Be
 laid-size B = B .legs-are .size ∙ length-replicate {A = ℕ} 768 0
 
 pub none-passed : {sheet : List ℕ} {listed : List Bool} {records : List Record} {legs : List ℕ} → Begun sheet listed legs →
-    Passed (sheetOf sheet) listed records 0 legs (replicate 256 (topOf 1))
+    Passed (sheetOf sheet) listed records 0 legs (replicate 256 (topOf 1)) (replicate 512 0)
 none-passed B = record {
   known = known-start (trodden-start (length-replicate {A = ℕ} 768 0) (all-blank 0 768) (B .well-formed) (B .legs-are)) (B .well-formed);
+  traced = traced-start;
   formed = λ t l. absurd (omega arith);
 }
 
-pub passed-more : {s : Sheet} {listed : List Bool} {records : List Record} {n : ℕ} {legs links legs' links' : List ℕ} {r : Record} →
-    WellFormed s → n < length records → r ≡ recordAt records n → Passed s listed records n legs links →
-    RightTie s (marked listed) (stepsOf records) n r →
-    legs' ≡ set legs (tiePlace + n) (wordOf eitherWay (r .c % range) (r .a) (r .b)) → Joined links links' n (r .a) (r .b) (r .c % range) →
-    Passed s listed records (n + 1) legs' links'
-passed-more {records = records} {n} wf l same P R e J =
-    let T = tie-said R in
-    let said = step-said records n l ∙ ap stepOf (sym same) in
-    record {
-      known = rw (add-one n, e, T .gap-is)
-          (known-next (P .known) wf (rw said (R .right)) (rw said (T .ties)) (T .within) (T .left) (T .right) (rw (T .gap-is) at J));
-      formed = λ t h. formed t h (ℕ-discrete t n);
-    }
-  where
-    formed : (t : ℕ) → t < n + 1 → Dec (t ≡ n) → Formed (recordAt records t)
-    formed t h (yes d) = rw (d, ← same) (R .formed)
-    formed t h (no d) = P .formed t (omega arith)
+module _ {s : Sheet} {listed : List Bool} {records : List Record} {n : ℕ} {legs links paths : List ℕ} {r : Record} (wf : WellFormed s)
+    (l : n < length records) (same : r ≡ recordAt records n) (P : Passed s listed records n legs links paths)
+    (R : RightTie s (marked listed) (stepsOf records) n r) where
+  said : stepAt (stepsOf records) n ≡ stepOf r
+  said = step-said records n l ∙ ap stepOf (sym same)
+
+  -- with it the ties are at most as many as the terms
+  pub tie-fits : n < 128
+  tie-fits = omega (arith, wf .terms, few-ties s (marked listed) (stepsOf records) (wf .terms) (n + 1) ties)
+    where
+      tie : (t : ℕ) → t < n + 1 → Dec (t ≡ n) → TieRight s (marked listed) (stepsOf records) t (stepAt (stepsOf records) t)
+      tie t h (yes d) = rw (d, said) (R .right)
+      tie t h (no d) = P .known .ties t (omega arith)
+
+      ties : (t : ℕ) → t < n + 1 → TieRight s (marked listed) (stepsOf records) t (stepAt (stepsOf records) t)
+      ties t h = tie t h (ℕ-discrete t n)
+
+  pub passed-more : {legs' links' paths' : List ℕ} → legs' ≡ set legs (tiePlace + n) (wordOf eitherWay (r .c % range) (r .a) (r .b)) →
+      LaidPath links paths paths' n (r .a) (r .b) → Joined links links' n (r .a) (r .b) (r .c % range) →
+      Passed s listed records (n + 1) legs' links' paths'
+  passed-more e laid joined =
+      let T = tie-said R in
+      record {
+        known = rw (add-one n, e, T .gap-is)
+            (known-next (P .known) wf (rw said (R .right)) (rw said (T .ties)) (T .within) (T .left) (T .right) (rw (T .gap-is) at joined));
+        traced = traced-next (P .known) (P .traced) (rw said (R .right)) {c = T .c} (rw said (T .ties)) (T .left) (T .right) joined laid;
+        formed = λ t h. formed t h (ℕ-discrete t n);
+      }
+    where
+      formed : (t : ℕ) → t < n + 1 → Dec (t ≡ n) → Formed (recordAt records t)
+      formed t h (yes d) = rw (d, ← same) (R .formed)
+      formed t h (no d) = P .formed t (omega arith)

@@ -15,7 +15,8 @@ use Rattle.stated.specs.Said.{stepsOf, Formed, recordAt}
 use Rattle.stated.specs.declared.Step.{Step as Record}
 use Rattle.legs.specs.Legs.{Laid}
 use Rattle.linked.specs.Known.{Known}
-use Rattle.upheld.specs.Ruled.{Asked}
+use Rattle.traced.specs.Traced.{Traced}
+use Rattle.basis.specs.Basis.{Lent}
 use Rattle.gathered.specs.Gathers.{Upright}
 use Rattle.surveyor.specs.declared.Survey.{Survey}
 use Rattle.surveyor.specs.declared.Ready.{Ready}
@@ -51,15 +52,17 @@ ReadySays sheet list listed legs ready.NoList = (refusal sheet roomNeeded ≡ fi
 ReadySays sheet list listed legs ready.Fine = AllFine sheet list listed legs
 
 -- the first n steps are ties of the form of steps, and what is known of them
-pub record Passed (s : Sheet) (listed : List Bool) (records : List Record) (n : ℕ) (legs links : List ℕ) : Type 0 where
+pub record Passed (s : Sheet) (listed : List Bool) (records : List Record) (n : ℕ) (legs links paths : List ℕ) : Type 0 where
   pub known : Known s (marked listed) (stepsOf records) n legs links
+  pub traced : Traced (stepsOf records) links paths
   pub formed : (t : ℕ) → t < n → Formed (recordAt records t)
 
 -- a step that closes, behind ties
-pub record Ended (sheet : List ℕ) (listed : List Bool) (records : List Record) (n : ℕ) (legs links : List ℕ) : Type 0 where
-  pub asked : Asked sheet legs links
+pub record Ended (sheet : List ℕ) (listed : List Bool) (records : List Record) (n : ℕ) (links paths : List ℕ) : Type 0 where
+  pub lent : Lent sheet links paths
   pub size : length listed ≡ 256
-  pub upright : Upright (sheetOf sheet) (marked listed) records n legs links
+  pub legs : List ℕ
+  pub upright : Upright (sheetOf sheet) (marked listed) records n legs links paths
 
 -- the answer, for whatever list the marks are of
 pub record Answers (s : Sheet) (listed : List Bool) (records : List Record) (r : Survey) : Type 0 where

@@ -14,6 +14,7 @@ use legs::LEGS;
 use links::LINKS;
 use refusal::Checked;
 use refusal::Refusal;
+use routes::PATHS;
 use stated::Step;
 use upheld::Ruling;
 
@@ -110,13 +111,14 @@ fn go_through(sheet: &[u8], listed: &[bool], legs: &mut [u64], steps: &[Step]) -
 {
     let count = stated::count(steps);
     let mut links = [links::ALONE; LINKS];
+    let mut paths = [0u64; PATHS];
     let mut n = 0;
     while n < count {
         let s = stated::step_at(steps, n);
         match upheld::ruling_on(sheet, listed, legs, &links, s) {
             Ruling::Wrong => return Survey::Wrong(n as u8),
-            Ruling::Closes => return close(sheet, listed, legs, &links, steps, n),
-            Ruling::Ties => upheld::note(legs, &mut links, n as u8, s),
+            Ruling::Closes => return close(sheet, listed, &links, &paths, steps, n),
+            Ruling::Ties => upheld::note(legs, &mut links, &mut paths, n as u8, s),
         }
         n += 1;
     }
@@ -127,20 +129,20 @@ fn go_through(sheet: &[u8], listed: &[bool], legs: &mut [u64], steps: &[Step]) -
 fn close(
     sheet: &[u8],
     listed: &[bool],
-    legs: &[u64],
     links: &[u64],
+    paths: &[u64],
     steps: &[Step],
     n: usize,
 ) -> Survey
-    requires { ⌜ Ended (now sheet) (now listed) (now steps) n (now legs) (now links) ⌝ }
+    requires { ⌜ Ended (now sheet) (now listed) (now steps) n (now links) (now paths) ⌝ }
     ensures { λ r. ⌜ Answers (sheetOf (now (sheet .entry))) (now (listed .entry)) (now (steps .entry)) r ⌝ }
 {
     if n + 1 < stated::count(steps) {
         return Survey::Wrong(n as u8);
     }
     let mut entries = [false; 256];
-    let mut walked = [false; 256];
-    gathered::gather(sheet, steps, legs, links, n, &mut entries, &mut walked);
+    let mut walked = [0u64; 2];
+    gathered::gather(sheet, steps, links, paths, n, &mut entries, &mut walked);
     if same(listed, &entries, reading::count_entries(sheet)) {
         Survey::Yes
     } else {

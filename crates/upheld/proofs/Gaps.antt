@@ -1,77 +1,27 @@
--- A tie's c as a gap: within 2 ^ 31 either way, the gap of a number of eight bytes is that number but for the range, either way round; a
--- gap tells its number; and a stand is under zero where its total is.
+-- Gaps as whole numbers: a tie's c the other way round; a gap tells its number; and a stand is under zero where its total is.
 -- Assumes nothing.
-use Prim.Native.Nat.{ℕ, _+_, _-_, _*_, _/_, _%_, _^_, _≤_, _<_}
+use Prim.Native.Nat.{ℕ, _+_, _-_, _/_, _%_, _^_, _≤_, _<_}
 use mathlib.Core.Path.{_≡_, refl, sym, _∙_, ap, subst}
-use mathlib.Core.Logic.{_⊎_, inl, inr, ⊎-elim}
-use mathlib.Core.Bool.{Bool, true, false, _||_, false≢true}
+use mathlib.Core.Logic.{_⊎_, inl, inr}
+use mathlib.Core.Bool.{Bool, true, false, false≢true}
 use native.Mathlib.Omega.{arith}
-use lib.Dec.{leb, ltb}
-use lib.IntN.{ℤ, pos, negsuc, negℤ, subℕ, +ℤ-idl}
+use lib.IntN.{ℤ, pos, negsuc, negℤ, +ℤ-idl}
 use Rattle.whole.specs.Whole.{plus, minus}
-use Rattle.whole.proofs.Order.{order}
-use Rattle.whole.proofs.Parts.{sub-parts}
 use Rattle.big.specs.Big.{signedOf, complementOf}
-use Rattle.big.proofs.Signed.{signed-low, signed-high}
-use Rattle.big.proofs.Bytes.{signed-complement, complement-difference}
+use Rattle.big.proofs.Bytes.{signed-complement}
 use Rattle.kind.specs.Kind.{Kind}
-use Rattle.meaning.specs.Decides.{Decides}
-use Rattle.meaning.proofs.Decides.{told}
 use Rattle.reasons.specs.Rules.{TieWithin, Under}
 use Rattle.legs.specs.Legs.{range, gapFor}
 use Rattle.legs.specs.declared.Stand.{Stand}
 use Rattle.strides.specs.Trodden.{kindFor, Comes}
-use Rattle.strides.proofs.Gaps.{parts-most, gap-back}
-use Rattle.upheld.specs.Ruled.{UnderAt}
-use Rattle.upheld.proofs.Tests.{at-most, below, either}
+use Rattle.strides.proofs.Gaps.{gap-back, tie-gap}
+use Rattle.probes.specs.Probes.{UnderAt}
 
--- eight bytes as a whole number: from half on, less 2 ^ 64
-data Signed (c : ℕ) (z : ℤ) : Type 0 where
-  low : 2 * c < 2 ^ 64 → plus z ≡ c → minus z ≡ 0 → Signed c z
-  high : 2 ^ 64 ≤ 2 * c → plus z ≡ 0 → minus z ≡ 2 ^ 64 - c → Signed c z
-
-signed : (c : ℕ) → c < 2 ^ 64 → Signed c (signedOf 8 c)
-signed c l = ⊎-elim at-half below-half (order (2 ^ 64) (2 * c))
-  where
-    below-half : 2 * c < 2 ^ 64 → Signed c (signedOf 8 c)
-    below-half h =
-        let (p, m) = parts-most (subℕ c 0) c 0 (sub-parts c 0) in
-        rw (signed-low 8 c h) (low h (omega (arith, sub-parts c 0)) (omega arith))
-
-    at-half : 2 ^ 64 ≤ 2 * c → Signed c (signedOf 8 c)
-    at-half h =
-        let e = sub-parts c (2 ^ 64) in
-        let (p, m) = parts-most (subℕ c (2 ^ 64)) 0 (2 ^ 64 - c) (omega arith) in
-        rw (signed-high 8 c h) (high h (omega arith) (omega arith))
-
-module _ {c : ℕ} {z : ℤ} where
-  within-sure : Signed c z → (c ≤ 2147483648) ⊎ (18446744071562067967 < c) → c < 2 ^ 64 → TieWithin z
-  within-sure (low h p m) (inl k) l = (omega arith, omega arith)
-  within-sure (low h p m) (inr k) l = absurd (omega arith)
-  within-sure (high h p m) (inl k) l = absurd (omega arith)
-  within-sure (high h p m) (inr k) l = (omega arith, omega arith)
-
-  within-near : Signed c z → TieWithin z → (c ≤ 2147483648) ⊎ (18446744071562067967 < c)
-  within-near (low h p m) (a, b) = inl (omega arith)
-  within-near (high h p m) (a, b) = inr (omega arith)
-
-  gap-is : Signed c z → c < 2 ^ 64 → TieWithin z → c % range ≡ gapFor z
-  gap-is (low h p m) l (a, b) = complement-difference 5 (c % range) c 0 z (omega arith) (omega arith) (inl (omega arith))
-  gap-is (high h p m) l (a, b) = complement-difference 5 (c % range) 0 (2 ^ 64 - c) z (omega arith) (omega arith) (inr (omega arith))
-
-pub within-told : (c : ℕ) → c < 2 ^ 64 → Decides (TieWithin (signedOf 8 c)) (leb c 2147483648 || ltb 18446744071562067967 c)
-within-told c l =
-    let S = signed c l in
-    told (λ h. within-sure S h l) (within-near S) (either (at-most c 2147483648) (below 18446744071562067967 c))
-
-pub tie-gap : (c : ℕ) → c < 2 ^ 64 → TieWithin (signedOf 8 c) → c % range ≡ gapFor (signedOf 8 c)
-tie-gap c l = gap-is (signed c l) l
-
-pub tie-back : (c : ℕ) → c < 2 ^ 64 → TieWithin (signedOf 8 c) → (range - c % range) % range ≡ gapFor (negℤ (signedOf 8 c))
+pub tie-back : (c : ℕ) → TieWithin (signedOf 8 c) → (range - c % range) % range ≡ gapFor (negℤ (signedOf 8 c))
 unfolding complementOf
-tie-back c l w =
+tie-back c w =
     let z = signedOf 8 c in
-    let e : range - c % range ≡ gapFor (pos 0) + (range - gapFor z) = omega (arith, tie-gap c l w) in
+    let e : range - c % range ≡ gapFor (pos 0) + (range - gapFor z) = omega (arith, tie-gap c w) in
     ap (λ (g : ℕ). g % range) e ∙ gap-back (pos 0) z (omega arith) (omega arith) ∙ ap gapFor (+ℤ-idl (negℤ z))
 
 pub gap-one : (y z : ℤ) → plus y < 2 ^ 39 → minus y < 2 ^ 39 → plus z < 2 ^ 39 → minus z < 2 ^ 39 → gapFor y ≡ gapFor z → y ≡ z

@@ -1,12 +1,10 @@
 -- What links say of two points, and so of two applications, is what the rules say.
 -- Assumes nothing.
 use Prim.Native.Nat.{ℕ, _^_, _≤_, _<_}
-use mathlib.Core.Path.{_≡_, refl, sym, _∙_, ap, subst}
-use mathlib.Core.Logic.{_≢_}
+use mathlib.Core.Path.{_≡_, refl, sym, _∙_, ap}
 use mathlib.Core.Bool.{Bool, true, false, true≢false, false≢true}
 use mathlib.Core.List.{List}
 use native.Mathlib.Omega.{arith}
-use lib.Dec.{eqb}
 use lib.IntN.{ℤ, pos}
 use Rattle.whole.specs.Whole.{plus, minus}
 use Rattle.order.specs.First.{Set}
@@ -18,23 +16,13 @@ use Rattle.reasons.specs.Step.{Step}
 use Rattle.reasons.specs.Rules.{Tied, Apart, Level}
 use Rattle.reasons.proofs.Paths.{right-joins, one-path}
 use Rattle.legs.specs.Legs.{gapFor}
-use Rattle.links.specs.Links.{Between}
 use Rattle.links.specs.declared.Apartness.the-variants.{Apart as TwoGroups, Tied as OneGroup}
 use Rattle.linked.specs.Known.{Known}
 use Rattle.linked.proofs.Told.{kin-between}
-use Rattle.upheld.specs.Ruled.{TiedSays, TiedAtSays}
-use Rattle.upheld.specs.Ruled.TiedSays.{one-group, two-groups}
-use Rattle.upheld.specs.Ruled.TiedAtSays.{at-it, at-another, at-none}
-use Rattle.upheld.proofs.Tests.{same}
+use Rattle.probes.specs.Probes.{TiedSays, TiedAtSays}
+use Rattle.probes.specs.Probes.TiedSays.{one-group, two-groups}
+use Rattle.probes.specs.Probes.TiedAtSays.{at-it, at-another, at-none}
 use Rattle.upheld.proofs.Gaps.{gap-one}
-
--- the answer that compares a gap
-pub at-gap : (links : List ℕ) (i j gap other : ℕ) → Between links i j (OneGroup other) → TiedAtSays links i j gap (eqb other gap)
-at-gap links i j gap other h = go (eqb other gap) (same other gap)
-  where
-    go : (r : Bool) → Decides (other ≡ gap) r → TiedAtSays links i j gap r
-    go true D = at-it (subst (λ (g : ℕ). Between links i j (OneGroup g)) (D .yes refl) h)
-    go false D = at-another other (D .no refl) h
 
 -- two points are tied with a gap
 pub record TiedBy (steps : List Step) (n i j : ℕ) (c : ℤ) : Type 0 where
@@ -45,22 +33,22 @@ module _ {s : Sheet} {listed : Set} {steps : List Step} {n : ℕ} {legs links : 
     (left : i ≤ countTerms s) (right : j ≤ countTerms s) where
   pub apart-told : {r : Bool} → TiedSays links i j r → (r ≡ false → Apart steps n i j) × (r ≡ true → Apart steps n i j → ⊥)
   apart-told (one-group gap h) =
-      let G = kin-between (K .links-are) (K .ties) (K .links-are .terms) left right (OneGroup gap) h in
+      let G = kin-between (K .links-are) (K .ties) left right (OneGroup gap) h in
       (λ e. absurd (true≢false e), λ e A. A (G .c) (G .path) (G .tied))
   apart-told (two-groups h) =
-      (λ e. kin-between (K .links-are) (K .ties) (K .links-are .terms) left right TwoGroups h, λ e. absurd (false≢true e))
+      (λ e. kin-between (K .links-are) (K .ties) left right TwoGroups h, λ e. absurd (false≢true e))
 
   pub at-told : {gap : ℕ} {r : Bool} (c : ℤ) → gap ≡ gapFor c → plus c < 2 ^ 39 → minus c < 2 ^ 39 → TiedAtSays links i j gap r →
       Decides (TiedBy steps n i j c) r
   at-told {gap} c e up down (at-it h) =
-      let G = kin-between (K .links-are) (K .ties) (K .links-are .terms) left right (OneGroup gap) h in
+      let G = kin-between (K .links-are) (K .ties) left right (OneGroup gap) h in
       let q = gap-one (G .c) c (G .up) (G .down) up down (sym (G .gap-is) ∙ e) in
       shown record { path = G .path; tied = rw q at (G .tied) }
   at-told {gap} c e up down (at-another other ne h) =
-      let G = kin-between (K .links-are) (K .ties) (K .links-are .terms) left right (OneGroup other) h in
+      let G = kin-between (K .links-are) (K .ties) left right (OneGroup other) h in
       refuted (λ T. ne (G .gap-is ∙ ap gapFor (one-path steps n (λ t l. right-joins (K .ties t l)) (G .tied) (T .tied) .0) ∙ sym e))
   at-told c e up down (at-none h) =
-      refuted (λ T. kin-between (K .links-are) (K .ties) (K .links-are .terms) left right TwoGroups h c (T .path) (T .tied))
+      refuted (λ T. kin-between (K .links-are) (K .ties) left right TwoGroups h c (T .path) (T .tied))
 
   pub level-told : {r : Bool} → TiedAtSays links i j 0 r → Decides (Level steps n i j) r
   unfolding complementOf

@@ -19,7 +19,8 @@ use Rattle.sheet.proofs.Below.{argument, arguments}
 use Rattle.meaning.specs.Meaning.{SameInput}
 use Rattle.meaning.specs.Meaning.SameInput.{one, two}
 use Rattle.meaning.proofs.Decides.{refuted, told}
-use Rattle.upheld.specs.Ruled.{TiedAtSays, TellsInput}
+use Rattle.probes.specs.Probes.{TiedAtSays}
+use Rattle.upheld.specs.Ruled.{TellsInput}
 use Rattle.upheld.proofs.Groups.{level-told}
 
 same-one : {Alike : ℕ → ℕ → Type 0} {x y a b : ℕ} → SameInput Alike (apply x a) (apply y b) → (x ≡ y) × Alike a b

@@ -1,4 +1,4 @@
-mod Tests
+mod Spares
 mod Gaps
 mod Walks
 mod Groups

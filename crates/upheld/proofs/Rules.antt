@@ -1,8 +1,7 @@
 -- What is told of a step, at each place where a test of it ends.
 -- Assumes nothing.
-use Prim.Native.Nat.{ℕ, _-_, _%_, _^_, _≤_, _<_}
+use Prim.Native.Nat.{ℕ, _-_, _%_, _≤_, _<_}
 use mathlib.Core.Path.{_≡_, refl, sym, _∙_, ap, subst}
-use mathlib.Core.Logic.{_≢_}
 use mathlib.Core.Bool.{Bool, true, false, cond, true≢false}
 use mathlib.Core.List.{List}
 use native.Mathlib.Omega.{arith}
@@ -22,11 +21,13 @@ use Rattle.reasons.specs.Rules.{TieWithin}
 use Rattle.stated.specs.declared.Step.{Step as Record}
 use Rattle.legs.specs.Legs.{range, gapFor}
 use Rattle.strides.specs.Trodden.{Small}
+use Rattle.strides.proofs.Gaps.{tie-gap}
 use Rattle.strides.proofs.Told.{small-sheet}
 use Rattle.linked.specs.Known.{Known}
-use Rattle.upheld.specs.Ruled.{Asked, TiedSays, TiedAtSays, GoesTo, TellsInput, TellsTie, TellsClosing, Ruled}
+use Rattle.probes.specs.Probes.{TiedSays, TiedAtSays, GoesTo}
+use Rattle.upheld.specs.Ruled.{Asked, TellsInput, TellsTie, TellsClosing, Ruled}
 use Rattle.upheld.specs.declared.Ruling.the-variants.{Wrong, Ties, Closes}
-use Rattle.upheld.proofs.Gaps.{tie-gap, tie-back}
+use Rattle.upheld.proofs.Gaps.{tie-back}
 use Rattle.upheld.proofs.Walks.{Falls, goes-walk, walk-goes, falls-sinks, sinks-falls}
 use Rattle.upheld.proofs.Groups.{TiedBy, apart-told, at-told}
 use Rattle.upheld.proofs.Forms.{ByWalks, walks-tie, tie-walks, ByFunctions, functions-tie, tie-functions, round-closing, closing-round, OnEntry, entry-closing, closing-entry, tie-kind, closing-kind}
@@ -68,10 +69,10 @@ module _ {b legs links : List ℕ} (A : Asked b legs links) (k : Record) where
     pub walks-grouped : TiedSays links (k .a) (k .b) true → TellsTie b legs links k false
     walks-grouped S = walks-false (λ listed steps n K W. apart-told K (W .left) (W .right) S .1 refl (W .apart))
 
-    module _ (B : Bytes b) (small : k .c < 2 ^ 64) (there : 129 ≤ length (k .there)) where
+    module _ (B : Bytes b) (there : 129 ≤ length (k .there)) where
       pub walks-nowhere : (GoesTo legs (k .there) (statedTerms b) (k .first) (k .a) (k .b) (k .c % range) → ⊥) → TellsTie b legs links k false
       walks-nowhere n = walks-false (λ listed steps m K W.
-          n (walk-goes (A .well-formed) (small-sheet b B) K (terms-stated b) (k .there) (signedOf 8 (k .c)) (tie-gap (k .c) small (W .within)) there
+          n (walk-goes (A .well-formed) (small-sheet b B) K (terms-stated b) (k .there) (signedOf 8 (k .c)) (tie-gap (k .c) (W .within)) there
           (W .there)))
 
       pub walks-told : {r : Bool} → 129 ≤ length (k .back) → WalksOn (statedTerms b) k → TiedSays links (k .a) (k .b) false →
@@ -88,11 +89,11 @@ module _ {b legs links : List ℕ} (A : Asked b legs links) (k : Record) where
               right = omega arith;
               within = w;
               apart = apart-told K (omega arith) (omega arith) S .0 refl;
-              there = goes-walk (A .well-formed) (small-sheet b B) K e c (tie-gap (k .c) small w) w there G;
-              back = goes-walk (A .well-formed) (small-sheet b B) K e (negℤ c) (tie-back (k .c) small w)
+              there = goes-walk (A .well-formed) (small-sheet b B) K e c (tie-gap (k .c) w) w there G;
+              back = goes-walk (A .well-formed) (small-sheet b B) K e (negℤ c) (tie-back (k .c) w)
                   (omega (arith, neg-plus c), omega (arith, neg-minus c)) back H;
             }))
-            (λ R. walk-goes (A .well-formed) (small-sheet b B) K e (k .back) (negℤ c) (tie-back (k .c) small w) back (tie-walks kind R .back))
+            (λ R. walk-goes (A .well-formed) (small-sheet b B) K e (k .back) (negℤ c) (tie-back (k .c) w) back (tie-walks kind R .back))
             D;
       }
 

@@ -1,12 +1,11 @@
--- What is told of where a walk over legs has come to; and such a walk is one by the rules with that total, and the other way round.
+-- A walk over legs that comes to be under zero; and a walk over legs is one by the rules with its total, and the other way round.
 -- Assumes nothing.
 use Prim.Native.Nat.{ℕ, _+_, _≤_}
-use mathlib.Core.Path.{_≡_, refl, sym, _∙_, ap, subst}
+use mathlib.Core.Path.{_≡_, sym, _∙_, ap, subst}
 use mathlib.Core.Logic.{_≢_}
-use mathlib.Core.Bool.{Bool, true, false, not, _&&_, false≢true}
+use mathlib.Core.Bool.{Bool, true, false, false≢true}
 use mathlib.Core.List.{List}
 use native.Mathlib.Omega.{arith}
-use lib.Dec.{eqb}
 use lib.IntN.{ℤ}
 use lib.ListN.{length, getD, take}
 use Rattle.kind.specs.Kind.{Kind, weak}
@@ -25,29 +24,9 @@ use Rattle.strides.specs.Trodden.{SmallSheet, kindFor, Trod}
 use Rattle.strides.proofs.Told.{goes-chain, chain-goes}
 use Rattle.linked.specs.Known.{Known}
 use Rattle.linked.proofs.Few.{kin-few}
-use Rattle.upheld.specs.Ruled.{GoesTo, UnderAt}
-use Rattle.upheld.proofs.Tests.{same, flag, none, both}
+use Rattle.probes.specs.Probes.{GoesTo, UnderAt}
+use Rattle.probes.proofs.Told.{plain-stand}
 use Rattle.upheld.proofs.Gaps.{gap-one, stands-under, under-stands}
-
-abbrev plainly : (at gap : ℕ) → Stand
-plainly i g = record { at = i; gap = g; strict = false }
-
-plain-stand : (e : Stand) {j gap : ℕ} → e .at ≡ j → e .gap ≡ gap → (e .strict ≡ true → ⊥) → e ≡ plainly j gap
-plain-stand e {j} {gap} a g n = go (e .strict) refl
-  where
-    go : (b : Bool) → e .strict ≡ b → e ≡ plainly j gap
-    go true h = absurd (n h)
-    go false h = rw (a, g, h)
-
-pub goes-here : {legs bounds : List ℕ} {level count i j gap : ℕ} {e : Stand} → count ≤ level + 1 → Goes legs (take count bounds) (startAt i) e →
-    Decides (GoesTo legs bounds level count i j gap) ((eqb (e .at) j && eqb (e .gap) gap) && not (e .strict))
-goes-here {legs} {bounds} {count = count} {i = i} {j} {gap} {e} few g =
-    told
-    (λ h. record { few = few; goes = subst (Goes legs (take count bounds) (startAt i)) (plain-stand e (h .0 .0) (h .0 .1) (h .1)) g })
-    (λ G.
-    let q = goes-one g (G .goes) in
-    ((ap (λ (x : Stand). x .at) q, ap (λ (x : Stand). x .gap) q), λ t. false≢true (sym (ap (λ (x : Stand). x .strict) q) ∙ t)))
-    (both (both (same (e .at) j) (same (e .gap) gap)) (none (flag (e .strict))))
 
 -- a walk over legs that comes to be under zero
 pub record Falls (legs bounds : List ℕ) (level count i k : ℕ) : Type 0 where

@@ -1,34 +1,27 @@
 // One step of a reason, by value: whether it is right by what is known before it; and a right tie noted for the steps behind it.
-// It rests on the walks over legs, the groups of links and what they mean, and tells each step's rule exactly (specs/Ruled.antt).
+// It rests on the small tests of probes and what legs and links mean, and tells each step's rule exactly (specs/Ruled.antt).
 ghost use mathlib.Core.Path.{_≡_};
 ghost use mathlib.Core.Bool.{cond};
 ghost use mathlib.Core.List.{List};
-ghost use Prim.Native.Nat.{ℕ, _+_, _%_, _≤_, _<_};
+ghost use Prim.Native.Nat.{ℕ, _+_, _%_, _<_};
 ghost use lib.ListN.{length, set};
 ghost use Rattle.order.specs.First.{Set, marked};
-ghost use Rattle.big.specs.Big.{signedOf};
 ghost use Rattle.sheet.specs.Decode.{sheetOf};
 ghost use Rattle.sheet.specs.Says.{termSays};
-ghost use Rattle.meaning.specs.Decides.{Decides};
 ghost use Rattle.reasons.specs.Step.{Step as RuleStep};
-ghost use Rattle.reasons.specs.Rules.{TieWithin};
 ghost use Rattle.legs.specs.Legs.{range, wordOf, eitherWay, tiePlace};
-ghost use Rattle.links.specs.Links.{Rising, Earlier, Joined};
+ghost use Rattle.links.specs.Links.{Rising, Joined};
+ghost use Rattle.routes.specs.Routes.{LaidPath};
 ghost use Rattle.linked.specs.Known.{Known};
 ghost use Rattle.upheld.specs.declared.Ruling.the-variants.{Wrong, Ties, Closes};
-ghost use Rattle.upheld.specs.Ruled.{Asked, TiedSays, TiedAtSays, GoesTo, UnderAt, TellsInput, TellsTie, TellsClosing, Ruled};
+ghost use Rattle.upheld.specs.Ruled.{Asked, TellsInput, TellsTie, TellsClosing, Ruled};
 use legs::RANGE;
-use legs::Stand;
 use legs::Walked;
-use links::Apartness;
 use sheet::EntryNumber;
 use sheet::Relation;
 use sheet::Term;
 use sheet::TermNumber;
 use stated::Step;
-
-// The most that a tie's c may be, either way.
-const MOST: u64 = 2147483648;
 
 pub enum Ruling {
     Wrong,
@@ -68,49 +61,17 @@ fn by_walks(sheet: &[u8], legs: &[u64], links: &[u64], s: Step) -> bool
     ensures { λ r. ⌜ TellsTie (now (sheet .entry)) (now (legs .entry)) (now (links .entry)) s r ⌝ }
 {
     let zero = sheet[3];
-    if (zero < s.a) | (zero < s.b) | !within(s.c) {
+    if (zero < s.a) | (zero < s.b) | !probes::within(s.c) {
         return false;
     }
-    if tied(links, s.a, s.b) {
+    if probes::tied(links, s.a, s.b) {
         return false;
     }
     let there = s.there;
     let back = s.back;
     let c = s.c % RANGE;
-    goes_to(legs, zero, &there, s.first, s.a, s.b, c)
-        && goes_to(legs, zero, &back, s.second, s.b, s.a, (RANGE - c) % RANGE)
-}
-
-// c is two's complement.
-fn within(c: u64) -> bool
-    ensures { λ r. ⌜ Decides (TieWithin (signedOf 8 c)) r ⌝ }
-{
-    (c <= MOST) | (u64::MAX - MOST < c)
-}
-
-// Whether two points are of one group.
-fn tied(links: &[u64], i: u8, j: u8) -> bool
-    requires { ⌜ (length (now links) ≡ 256) × Rising (now links) ⌝ }
-    ensures { λ r. ⌜ TiedSays (now (links .entry)) i j r ⌝ }
-{
-    match links::between(links, i, j) {
-        Apartness::Apart => false,
-        Apartness::Tied(_) => true,
-    }
-}
-
-// A walk of at most T + 1 bounds from i to j, none of them strict, that comes to the gap.
-fn goes_to(legs: &[u64], zero: u8, bounds: &[u16], count: u8, i: u8, j: u8, gap: u64) -> bool
-    requires { ⌜ (length (now legs) ≡ 768) × (129 ≤ length (now bounds)) × (zero ≤ 128) ⌝ }
-    ensures { λ r. ⌜ Decides (GoesTo (now (legs .entry)) (now (bounds .entry)) zero count i j gap) r ⌝ }
-{
-    if zero as u16 + 1 < count as u16 {
-        return false;
-    }
-    match legs::walk(legs, bounds, count, i) {
-        Walked::Nowhere => false,
-        Walked::To(end) => (end.at == j) & (end.gap == gap) & !end.strict,
-    }
+    probes::goes_to(legs, zero, &there, s.first, s.a, s.b, c)
+        && probes::goes_to(legs, zero, &back, s.second, s.b, s.a, (RANGE - c) % RANGE)
 }
 
 // A tie, with c = 0, of two applications whose arguments are tied with gap 0.
@@ -122,7 +83,7 @@ fn by_functions(sheet: &[u8], legs: &[u64], links: &[u64], s: Step) -> bool
     if (s.c != 0) | (s.first != 0) | (s.second != 0) | (zero <= s.a) | (zero <= s.b) {
         return false;
     }
-    if tied(links, s.a, s.b) {
+    if probes::tied(links, s.a, s.b) {
         return false;
     }
     let f = reading::term_at(sheet, TermNumber(s.a));
@@ -136,26 +97,18 @@ fn same_input(links: &[u64], f: Term, g: Term) -> bool
 {
     match f {
         Term::Apply(x, a) => match g {
-            Term::Apply(y, b) => x.0 == y.0 && tied_at(links, a.0, b.0, 0),
+            Term::Apply(y, b) => x.0 == y.0 && probes::tied_at(links, a.0, b.0, 0),
             _ => false,
         },
         Term::Apply2(x, a, b) => match g {
             Term::Apply2(y, c, d) => {
-                x.0 == y.0 && tied_at(links, a.0, c.0, 0) && tied_at(links, b.0, d.0, 0)
+                x.0 == y.0
+                    && probes::tied_at(links, a.0, c.0, 0)
+                    && probes::tied_at(links, b.0, d.0, 0)
             }
             _ => false,
         },
         _ => false,
-    }
-}
-
-fn tied_at(links: &[u64], i: u8, j: u8, gap: u64) -> bool
-    requires { ⌜ (length (now links) ≡ 256) × Rising (now links) ⌝ }
-    ensures { λ r. ⌜ TiedAtSays (now (links .entry)) i j gap r ⌝ }
-{
-    match links::between(links, i, j) {
-        Apartness::Apart => false,
-        Apartness::Tied(c) => c == gap,
     }
 }
 
@@ -174,14 +127,8 @@ fn closing_walk(sheet: &[u8], legs: &[u64], links: &[u64], s: Step) -> bool
     let there = s.there;
     match legs::walk(legs, &there, s.first, s.a) {
         Walked::Nowhere => false,
-        Walked::To(end) => end.at == s.a && under(end),
+        Walked::To(end) => end.at == s.a && probes::under(end),
     }
-}
-
-fn under(end: Stand) -> bool
-    ensures { λ r. ⌜ Decides (UnderAt end) r ⌝ }
-{
-    (RANGE / 2 <= end.gap) | ((end.gap == 0) & end.strict)
 }
 
 // A ≠ entry on terms that are tied at exactly its c.
@@ -198,18 +145,20 @@ fn closing_entry(sheet: &[u8], listed: &[bool], legs: &[u64], links: &[u64], s: 
     let entry = reading::entry_at(sheet, EntryNumber(s.a));
     let relation = entry.relation;
     match relation {
-        Relation::Unequal => tied_at(links, entry.a.0, entry.b.0, legs::gap_of(entry.c)),
+        Relation::Unequal => probes::tied_at(links, entry.a.0, entry.b.0, legs::gap_of(entry.c)),
         _ => false,
     }
 }
 
-// Notes tie n for the steps behind it: its leg, and its groups joined.
-pub fn note(legs: &mut [u64], links: &mut [u64], n: u8, s: Step)
-    requires { ⌜ (length (now legs) ≡ 768) × (length (now links) ≡ 256) × Rising (now links) × Earlier (now links) n × (n < 255) ⌝ }
+// Notes tie n for the steps behind it: its leg, its path, and its groups joined.
+pub fn note(legs: &mut [u64], links: &mut [u64], paths: &mut [u64], n: u8, s: Step)
+    requires { ⌜ (length (now legs) ≡ 768) × (length (now links) ≡ 256) × Rising (now links) × (length (now paths) ≡ 512) × (n < 128) ⌝ }
     ensures leg { λ _. ⌜ now (legs .exit) ≡ set (now (legs .entry)) (tiePlace + n) (wordOf eitherWay (s .c % range) (s .a) (s .b)) ⌝ }
+    ensures path { λ _. ⌜ LaidPath (now (links .entry)) (now (paths .entry)) (now (paths .exit)) n (s .a) (s .b) ⌝ }
     ensures groups { λ _. ⌜ Joined (now (links .entry)) (now (links .exit)) n (s .a) (s .b) (s .c % range) ⌝ }
 {
     let c = s.c % RANGE;
     legs::lay_tie(legs, n, s.a, s.b, c);
+    routes::lay(links, paths, n, s.a, s.b);
     links::join(links, n, s.a, s.b, c);
 }

@@ -78,6 +78,20 @@ impl Forest {
     pub fn tied(&self, a: u8, b: u8) -> bool {
         self.group[usize::from(a)] == self.group[usize::from(b)]
     }
+
+    /// The ties from one point to that which stands for its group, and from there to the other.
+    pub fn detour(&self, a: u8, b: u8) -> Vec<usize> {
+        let middle = self.group[usize::from(a)];
+        let half = |a, b| self.path(a, b).map_or(Vec::new(), |path| path.ties);
+        [half(a, middle), half(middle, b)].concat()
+    }
+
+    /// All ties of a point's group.
+    pub fn ties_of_group(&self, a: u8) -> Vec<usize> {
+        let points = (0..self.branches.len()).filter(|&point| self.tied(a, point as u8));
+        let branches = points.flat_map(|point| &self.branches[point]);
+        branches.map(|branch| branch.step).collect()
+    }
 }
 
 #[cfg(test)]

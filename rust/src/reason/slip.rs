@@ -166,6 +166,12 @@ pub enum Slip {
     OneDeep,
     /// Gathers no entries through the path of second arguments.
     FirstPath,
+    /// Leaves out the first tie of a path.
+    ShortPath,
+    /// Takes a path by way of the point that stands for the group, there and back.
+    Detour,
+    /// Takes all ties of a group for a path.
+    WholeGroup,
     /// Gathers no entries of a tie's second walk.
     ThereOnly,
     /// Gathers the entries of all ties, whether the closing step rests on them or not.
@@ -174,7 +180,7 @@ pub enum Slip {
 
 impl Slip {
     /// Every slip, with its name on the command line.
-    pub const ALL: [(Slip, &'static str); 80] = [
+    pub const ALL: [(Slip, &'static str); 83] = [
         (Slip::ListFirst, "list-first"),
         (Slip::Level, "level"),
         (Slip::Falling, "falling"),
@@ -253,6 +259,9 @@ impl Slip {
         (Slip::PathsOnly, "paths-only"),
         (Slip::OneDeep, "one-deep"),
         (Slip::FirstPath, "first-path"),
+        (Slip::ShortPath, "short-path"),
+        (Slip::Detour, "detour"),
+        (Slip::WholeGroup, "whole-group"),
         (Slip::ThereOnly, "there-only"),
         (Slip::EveryTie, "every-tie"),
     ];

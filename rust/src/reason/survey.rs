@@ -278,15 +278,16 @@ impl<'a> Survey<'a> {
 
     /// The path between two points, if they are tied.
     fn path(&self, a: u8, b: u8) -> Option<Path> {
-        let path = self.forest.path(a, b)?;
+        let mut path = self.forest.path(a, b)?;
         match self.slip {
-            Some(Slip::NotItself) if a == b => None,
-            Some(Slip::ShortGap) => Some(Path {
-                gap: i64::from(path.gap as i32),
-                ..path
-            }),
-            _ => Some(path),
+            Some(Slip::NotItself) if a == b => return None,
+            Some(Slip::ShortGap) => path.gap = i64::from(path.gap as i32),
+            Some(Slip::ShortPath) => path.ties = path.ties.split_off(path.ties.len().min(1)),
+            Some(Slip::Detour) => path.ties = self.forest.detour(a, b),
+            Some(Slip::WholeGroup) if a != b => path.ties = self.forest.ties_of_group(a),
+            _ => {}
         }
+        Some(path)
     }
 
     fn closing_walk(&self, step: &Step) -> Result<Used, String> {

@@ -1,9 +1,8 @@
--- `basis::between_inputs` meets its contract: both terms are the sheet's, and of one kind since there is room for the paths between their
--- arguments (proofs/Inputs.antt).
+-- `basis::between_inputs` meets its contract: both terms are the sheet's, and their tags say whether they are applications of one kind.
 -- Assumes nothing.
 use Prim.Native.Nat.{ℕ, _-_}
 use mathlib.Core.Path.{_≡_, refl, sym, ap, _∙_}
-use mathlib.Core.List.{List}
+use mathlib.Core.Bool.{false}
 use mathlib.Core.Logic.{⊎-elim}
 use lib.ListN.{length}
 use native.Mathlib.Omega.{arith}
@@ -14,9 +13,11 @@ use Rattle.sheet.specs.Decode.{sheetOf}
 use Rattle.sheet.specs.Says.{termSays}
 use Rattle.sheet.specs.Sheet.{Term, termAt}
 use Rattle.sheet.proofs.Term as code
+use Rattle.sets.specs.declared.Ties.{Ties}
+use Rattle.sets.specs.Sets.{has}
 use Rattle.links.specs.Links.{Rising}
-use Rattle.basis.specs.Basis.{InputRoom, InputWritten}
-use Rattle.basis.proofs.Inputs.{arity, one-kind, room-of-one, one-written, room-of-first, room-of-second, two-written}
+use Rattle.basis.specs.Basis.{arity, InputsSay}
+use Rattle.basis.specs.Basis.InputsSay.{one, two, other}
 use Rattle.basis.proofs.between_inputs.Statement.{statement}
 use Rattle.basis.proofs.between_inputs.Tie as tie
 
@@ -29,109 +30,96 @@ tag-is (Apply2 s a b) = refl
 
 -- where both terms are read
 abbrev start-of : tie.After-term-at2 → tie.Start
-start-of c = c .before .before .before .before .before .before
+start-of c = c .before .before .before .before .before
 
 module _ (c : tie.After-term-at2) where
-  lent : (length (start-of c .args .legs .now) ≡ 768) × (length (start-of c .args .links .now) ≡ 256) × Rising (start-of c .args .links .now)
-  lent = let asked = start-of c .pre .0 .0 in (asked .legs-size, asked .links-size, asked .rising)
+  lent : (length (start-of c .args .links .now) ≡ 256) × Rising (start-of c .args .links .now) × (length (start-of c .args .paths .now) ≡ 512)
+  lent = let l = start-of c .pre .0 in (l .links-size, l .rising, l .paths-size)
 
   abbrev term : ℕ → Term
   term i = termAt (sheetOf (start-of c .args .sheet .now)) i
 
-  module _ {f : Code-Term} (F : c .before .term-at .result ≡ f) where
-    first-is : term (start-of c .args .a) ≡ termSays f
-    first-is = sym (c .before .term-at .ensures) ∙ ap termSays F
+  first-kind : arity (term (start-of c .args .a)) ≡ tagOf code.the-type (c .before .term-at .result) - 2
+  first-kind = ap arity (sym (c .before .term-at .ensures)) ∙ tag-is (c .before .term-at .result)
 
-    kind-is : arity (termSays f) ≡ tagOf code.the-type (c .term-at2 .result) - 2
-    kind-is = ap arity (sym first-is) ∙ one-kind (start-of c .pre .1) .0 ∙ ap arity (sym (c .term-at2 .ensures)) ∙ tag-is (c .term-at2 .result)
+  second-kind : arity (term (start-of c .args .b)) ≡ tagOf code.the-type (c .term-at2 .result) - 2
+  second-kind = ap arity (sym (c .term-at2 .ensures)) ∙ tag-is (c .term-at2 .result)
 
-    module _ {g : Code-Term} (G : c .term-at2 .result ≡ g) where
-      second-is : term (start-of c .args .b) ≡ termSays g
-      second-is = sym (c .term-at2 .ensures) ∙ ap termSays G
+  said : {f g : Code-Term} {ties : Ties} → c .before .term-at .result ≡ f → c .term-at2 .result ≡ g →
+      InputsSay (start-of c .args .links .now) (start-of c .args .paths .now) (termSays f) (termSays g) ties →
+      InputsSay (start-of c .args .links .now) (start-of c .args .paths .now) (term (start-of c .args .a)) (term (start-of c .args .b)) ties
+  said F G I = rw (sym (c .before .term-at .ensures) ∙ ap termSays F, sym (c .term-at2 .ensures) ∙ ap termSays G) I
 
-      room : InputRoom (start-of c .args .legs .now) (start-of c .args .links .now) (start-of c .args .n) (termSays f) (termSays g)
-          (start-of c .args .ties .now)
-      room = rw (first-is, second-is) at (start-of c .pre .1)
-
-      written : {new : List ℕ} {end : ℕ} →
-          InputWritten (start-of c .args .legs .now) (start-of c .args .links .now) (start-of c .args .n) (termSays f) (termSays g)
-          (start-of c .args .ties .now) new end →
-          InputWritten (start-of c .args .legs .now) (start-of c .args .links .now) (start-of c .args .n) (term (start-of c .args .a))
-          (term (start-of c .args .b)) (start-of c .args .ties .now) new end
-      written W = rw (first-is, second-is) W
+  -- a set without ties, of terms whose tags aren't those of applications of one kind
+  neither : {ties : Ties} → (arity (term (start-of c .args .a)) ≡ arity (term (start-of c .args .b)) → arity (term (start-of c .args .a)) ≡ 0) →
+      ((t : ℕ) → has ties t ≡ false) →
+      InputsSay (start-of c .args .links .now) (start-of c .args .paths .now) (term (start-of c .args .a)) (term (start-of c .args .b)) ties
+  neither h none = other h none
 
 term-at-requires : tie.Need-term-at-requires
-term-at-requires c κs = let pre = c .before .before .before .before .pre .0 in (pre .0 .sized, pre .1)
+term-at-requires c κs = let pre = c .before .before .before .pre in (pre .0 .sized, pre .1)
 
 term-at-requires-2 : tie.Need-term-at-requires-2
-term-at-requires-2 c κs = let pre = c .before .before .before .before .before .pre .0 in (pre .0 .sized, pre .2)
+term-at-requires-2 c κs = let pre = c .before .before .before .before .pre in (pre .0 .sized, pre .2)
 
-path-requires : tie.Need-path-requires
-path-requires c κs =
-    let g = c .before .before in
-    let f = g .before .before .before in
-    let read = f .before .before in
-    (lent read, room-of-one (room read (f .f .given .1) (g .g .given .1)))
+between-requires : tie.Need-between-requires
+between-requires c κs = lent (c .before .before .before .before .before .before)
 
-path-requires-2 : tie.Need-path-requires-2
-path-requires-2 c κs =
-    let g = c .before .before in
-    let f = g .before .before .before in
-    let read = f .before .before in
-    (lent read, room-of-first (room read (f .f2 .given .1) (g .g2 .given .1)))
+between-requires-2 : tie.Need-between-requires-2
+between-requires-2 c κs = lent (c .before .before .before .before .before .before)
 
-path-requires-3 : tie.Need-path-requires-3
-path-requires-3 c κs =
-    let path = c .before .before .before in
-    let g = path .before .before .before in
-    let f = g .before .before .before in
-    let read = f .before .before in
-    (lent read, room-of-second (room read (f .f2 .given .1) (g .g2 .given .1)) (path .path2 .ensures))
+between-requires-3 : tie.Need-between-requires-3
+between-requires-3 c κs = lent (c .before .before .before .before .before .before .before)
 
 returns : tie.Need-returns
 returns c =
-    let path = c .before .before in
-    let g = path .before .before .before in
+    let g = c .before .before in
     let f = g .before .before .before in
-    let read = f .before .before in
-    let F = f .f .given .1 in
-    let G = g .g .given .1 in
-    written read F G (one-written (room read F G) (path .path .ensures))
+    said (f .before .before) (f .f .given .1) (g .g .given .1) (one (c .between .ensures))
 
 returns-2 : tie.Need-returns-2
 returns-2 c =
-    let f = c .before .before in
-    let k = kind-is (f .before .before) (f .f .given .1) in
-    absurd (⊎-elim (λ e. omega arith) (⊎-elim (λ e. omega arith) (⊎-elim (λ e. omega arith) (λ e. omega arith))) (c .match2 .keys2))
+    let second = c .before in
+    let first = second .before .before .before in
+    let f = first-kind (first .before) in
+    let g = second-kind (first .before) in
+    let tag = first .match .keys1 in
+    neither (first .before)
+    (λ e. ⊎-elim (λ t. omega arith) (⊎-elim (λ t. omega arith) (⊎-elim (λ t. omega arith) (λ t. omega arith))) (second .match2 .keys2))
+    (c .none .ensures)
 
 returns-3 : tie.Need-returns-3
 returns-3 c =
-    let second = c .before .before in
-    let path = second .before .before .before .before in
-    let g = path .before .before .before in
+    let g = c .before .before .before .before in
     let f = g .before .before .before in
-    let read = f .before .before in
-    let F = f .f2 .given .1 in
-    let G = g .g2 .given .1 in
-    written read F G (two-written (room read F G) (path .path2 .ensures) (second .path3 .ensures))
+    said (f .before .before) (f .f2 .given .1) (g .g2 .given .1)
+    (two (record {
+      first = c .before .before .between2 .result;
+      first-says = c .before .before .between2 .ensures;
+      second = c .before .between3 .result;
+      second-says = c .before .between3 .ensures;
+      all = c .either .ensures;
+    }))
 
 returns-4 : tie.Need-returns-4
 returns-4 c =
-    let f = c .before .before in
-    let k = kind-is (f .before .before) (f .f2 .given .1) in
-    absurd (⊎-elim (λ e. omega arith) (⊎-elim (λ e. omega arith) (⊎-elim (λ e. omega arith) (λ e. omega arith))) (c .match3 .keys2))
+    let second = c .before in
+    let first = second .before .before .before in
+    let f = first-kind (first .before) in
+    let g = second-kind (first .before) in
+    let tag = first .match .keys2 in
+    neither (first .before)
+    (λ e. ⊎-elim (λ t. omega arith) (⊎-elim (λ t. omega arith) (⊎-elim (λ t. omega arith) (λ t. omega arith))) (second .match3 .keys2))
+    (c .none2 .ensures)
 
 returns-5 : tie.Need-returns-5
 returns-5 c =
-    let read = c .before in
-    let k = ap arity (first-is read refl) ∙ tag-is (read .before .term-at .result) in
-    let l = one-kind (start-of read .pre .1) .1 in
-    absurd (⊎-elim (λ e. omega arith) (⊎-elim (λ e. omega arith) (λ e. omega arith)) (c .match .keys3))
+    let f = first-kind (c .before .before) in
+    neither (c .before .before) (λ e. ⊎-elim (λ t. omega arith) (⊎-elim (λ t. omega arith) (λ t. omega arith)) (c .before .match .keys3)) (c .none3 .ensures)
 
 pub between-inputs-spec : {M : Type 1} → statement M
 between-inputs-spec =
     tie.close
-    (tie.spec term-at-requires term-at-requires-2 (λ c. c .match .keys1) (λ c. c .match2 .keys1) path-requires (λ c. c .match .keys2)
-    (λ c. c .match3 .keys1) path-requires-2 path-requires-3 (λ c. c .before .before .path .ensures .size) returns returns-2
-    (λ c. c .before .before .path3 .ensures .size ∙ c .before .before .before .before .before .before .path2 .ensures .size) returns-3
-    returns-4 returns-5)
+    (tie.spec term-at-requires term-at-requires-2 (λ c. c .match .keys1) (λ c. c .match2 .keys1) between-requires (λ c κs. tt)
+    (λ c. c .match .keys2) (λ c. c .match3 .keys1) between-requires-2 between-requires-3 (λ c κs. tt) (λ c κs. tt) (λ c κs. tt) returns
+    returns-2 returns-3 returns-4 returns-5)

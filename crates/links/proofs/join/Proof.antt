@@ -53,7 +53,7 @@ module _ (c : tie.After-topmost) where
   second-small = gap-small second
 
   own-small : start-of c .args .c < range
-  own-small = start-of c .pre .4
+  own-small = start-of c .pre .2
 
   abbrev size : ℕ
   size = (c .before .before .before .size .result + c .before .size2 .result) % 256

@@ -6,8 +6,9 @@ use native.Mathlib.Omega.{arith}
 use lib.Dec.{leb, eqb}
 use lib.ListN.{getD}
 use Rattle.sheet.proofs.Decode.{terms-stated}
-use Rattle.upheld.specs.Ruled.{TiedSays}
-use Rattle.upheld.proofs.Tests.{same, Spares, above, unless, neither}
+use Rattle.probes.specs.Probes.{TiedSays}
+use Rattle.probes.proofs.Tests.{same}
+use Rattle.upheld.proofs.Spares.{Spares, above, unless, neither}
 use Rattle.upheld.proofs.Rules.{FunctionsOn, functions-off, functions-grouped, functions-told}
 use Rattle.upheld.proofs.by_functions.Statement.{statement}
 use Rattle.upheld.proofs.by_functions.Tie as tie

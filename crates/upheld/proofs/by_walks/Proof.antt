@@ -1,6 +1,5 @@
 -- `upheld::by_walks` meets its contract: what is told at each place where it answers (proofs/Rules.antt).
 -- Assumes nothing.
-use Prim.Native.Nat.{_<_, _^_}
 use mathlib.Core.Path.{_≡_, sym, subst}
 use mathlib.Core.Bool.{not, _||_}
 use native.Mathlib.Omega.{arith}
@@ -8,8 +7,9 @@ use borrow.Author.Needs.{needs}
 use lib.Dec.{ltb}
 use lib.ListN.{length, getD}
 use Rattle.big.specs.Big.{Bytes}
-use Rattle.upheld.specs.Ruled.{TiedSays, TellsTie}
-use Rattle.upheld.proofs.Tests.{Spares, at-least, unless, neither}
+use Rattle.probes.specs.Probes.{TiedSays}
+use Rattle.upheld.specs.Ruled.{TellsTie}
+use Rattle.upheld.proofs.Spares.{Spares, at-least, unless, neither}
 use Rattle.upheld.proofs.Rules.{few-terms, WalksOn, walks-off, walks-grouped, walks-nowhere, walks-told}
 use Rattle.upheld.proofs.by_walks.Statement.{statement}
 use Rattle.upheld.proofs.by_walks.Tie as tie
@@ -19,9 +19,6 @@ there-long c = search needs
 
 back-long : (c : tie.Start) → length (c .args .s .back) ≡ 129
 back-long c = search needs
-
-small : (c : tie.Start) → c .args .s .c < 2 ^ 64
-small c = search needs
 
 abbrev start : tie.After-within → tie.Start
 start c = c .before .before .before .before .before .before .before
@@ -76,7 +73,7 @@ returns-3 c =
     let a = apart (there .before .before) in
     let w = tested a in
     let s = start w in
-    walks-told (s .pre .0) (s .args .s) (s .pre .1) (bytes w) (small s)
+    walks-told (s .pre .0) (s .args .s) (s .pre .1) (bytes w)
     (omega (arith, there-long s)) (omega (arith, back-long s)) (spares w .passed (a .before .before .if1 .left))
     (subst (TiedSays _ _ _) (a .if2 .left) (a .before .tied .ensures)) (there .before .goes-to .ensures .yes (there .if3 .taken))
     (c .goes-to2 .ensures)
@@ -87,7 +84,7 @@ returns-4 c =
     let w = tested (apart (there .before)) in
     let s = start w in
     subst (TellsTie _ _ _ _) (sym (c .if3 .left))
-    (walks-nowhere (s .pre .0) (s .args .s) (s .pre .1) (bytes w) (small s) (omega (arith, there-long s))
+    (walks-nowhere (s .pre .0) (s .args .s) (s .pre .1) (bytes w) (omega (arith, there-long s))
     (there .goes-to .ensures .no (c .if3 .left)))
 
 pub by-walks-spec : {M : Type 1} → statement M

@@ -18,7 +18,8 @@ use Rattle.sheet.specs.declared.Relation.the-variants.{Equal, Unequal, AtMost, 
 use Rattle.sheet.specs.Says.{relationSays, entrySays}
 use Rattle.sheet.proofs.Relation as code
 use Rattle.sheet.proofs.Decode.{entries-stated}
-use Rattle.upheld.proofs.Tests.{same, Spares, above, unless, neither}
+use Rattle.probes.proofs.Tests.{same}
+use Rattle.upheld.proofs.Spares.{Spares, above, unless, neither}
 use Rattle.upheld.proofs.Rules.{EntryOn, entry-off, entry-unlisted, entry-other, entry-told}
 use Rattle.upheld.proofs.closing_entry.Statement.{statement}
 use Rattle.upheld.proofs.closing_entry.Tie as tie

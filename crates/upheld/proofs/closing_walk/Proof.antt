@@ -8,8 +8,9 @@ use borrow.Author.Tests.{ne-eqb}
 use lib.Dec.{ltb, eqb}
 use lib.ListN.{length, getD}
 use Rattle.big.specs.Big.{Bytes}
+use Rattle.probes.proofs.Tests.{same}
 use Rattle.upheld.specs.Ruled.{TellsClosing}
-use Rattle.upheld.proofs.Tests.{same, Spares, at-least, unless, neither}
+use Rattle.upheld.proofs.Spares.{Spares, at-least, unless, neither}
 use Rattle.upheld.proofs.Walks.{falls-here, falls-there}
 use Rattle.upheld.proofs.Rules.{few-terms, RoundOn, round-off, round-nowhere, round-told}
 use Rattle.upheld.proofs.closing_walk.Statement.{statement}

@@ -4,7 +4,8 @@ use mathlib.Core.Path.{sym, _∙_, subst}
 use mathlib.Core.List.{[], _∷_}
 use mathlib.Core.Logic.{⊎-elim}
 use borrow.Author.Tests.{eqb-true, ne-eqb}
-use Rattle.upheld.specs.Ruled.{TiedAtSays, TellsInput}
+use Rattle.probes.specs.Probes.{TiedAtSays}
+use Rattle.upheld.specs.Ruled.{TellsInput}
 use Rattle.upheld.proofs.Inputs.{one-told, one-symbol, two-told, two-first, two-symbol, other-kind, no-application}
 use Rattle.upheld.proofs.same_input.Statement.{statement}
 use Rattle.upheld.proofs.same_input.Tie as tie

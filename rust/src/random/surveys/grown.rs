@@ -60,7 +60,7 @@ pub fn right(random: &mut Random) -> Case {
 }
 
 /// Takes a tie out over which no step walks.
-fn leave_out(steps: &mut Vec<Step>, own: usize) {
+pub fn leave_out(steps: &mut Vec<Step>, own: usize) {
     steps.remove(own);
     for step in &mut steps[own..] {
         renumber(step, |tie| tie - u8::from(usize::from(tie) > own));

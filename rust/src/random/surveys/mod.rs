@@ -1,6 +1,7 @@
 //! The families of reasons for a check, with their sheets and lists: right ones, and ones that
 //! somebody got wrong. Each is a recipe for a place where a check could go wrong.
 
+mod branches;
 mod grown;
 mod limits;
 mod spoilt;
@@ -34,7 +35,7 @@ impl SurveyFamily {
     }
 }
 
-pub const SURVEYS: [SurveyFamily; 15] = [
+pub const SURVEYS: [SurveyFamily; 16] = [
     SurveyFamily {
         name: "written",
         about: "reasons of the independent writer, for sheets of all families",
@@ -44,6 +45,11 @@ pub const SURVEYS: [SurveyFamily; 15] = [
         name: "grown",
         about: "reasons of ties at all gaps, and of walks over ties",
         make: |random| varied(random, grown::right),
+    },
+    SurveyFamily {
+        name: "branches",
+        about: "ties that rest on paths of ties, and lists with an entry of a tie off the path",
+        make: branches::branches,
     },
     SurveyFamily {
         name: "fields",

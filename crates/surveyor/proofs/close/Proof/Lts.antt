@@ -74,7 +74,7 @@ abbrev pub r : Kinds.RK 5
 r = Value.rVal record { ty = Declared.row Survey.the-type; one = Path'.refl; val = Laws'.val Survey.the-type Laws.the-laws; tells = Laws'.tells Survey.the-type Laws.the-laws; still = Laws'.still Survey.the-type Laws.the-copy Exit.yes; row = Rows'.whole (Declared.row Survey.the-type); rd = λ x. x; mk = λ x. x } λ M 𝓤 H A W. record { copies = Laws'.copy Survey.the-type Laws.the-copy 𝓤 H A W; lawful = Laws'.lawful Survey.the-type Laws.the-laws 𝓤 H A W tt; makes = Laws'.makes Survey.the-type Laws.the-plain 𝓤 H A; in-mem = Local.mem-whole 𝓤 H A W (Declared.row Survey.the-type); of-mem = Local.whole-mem 𝓤 H A W (Declared.row Survey.the-type) }
 
 abbrev pub xs : List.List Syntax.Ty
-xs = List._∷_ (Syntax.tyArray Syntax.tyBool 256) (List._∷_ (Syntax.tyArray Syntax.tyBool 256) (List._∷_ (Syntax.tyInt Syntax.w64) (List._∷_ (Syntax.tyInt Syntax.w64) (List._∷_ Syntax.tyBool (List._∷_ (Syntax.tyInt Syntax.w8) (List._∷_ Syntax.tyUnit (List._∷_ (Syntax.tyRef Syntax.erased Syntax.mut (Syntax.tyArray Syntax.tyBool 256)) (List._∷_ (Syntax.tyStruct (List._∷_ 38 (List._∷_ 91 (List._∷_ 93 List.[]))) (Syntax.tcons (Syntax.tyRef Syntax.erased Syntax.mut Syntax.tyBool) (Syntax.tcons (Syntax.tyInt Syntax.w64) Syntax.tnil))) (List._∷_ (Syntax.tyRef Syntax.erased Syntax.mut (Syntax.tyArray Syntax.tyBool 256)) (List._∷_ (Syntax.tyStruct (List._∷_ 38 (List._∷_ 91 (List._∷_ 93 List.[]))) (Syntax.tcons (Syntax.tyRef Syntax.erased Syntax.mut Syntax.tyBool) (Syntax.tcons (Syntax.tyInt Syntax.w64) Syntax.tnil))) (List._∷_ Syntax.tyBool (List._∷_ (Syntax.tyRef Syntax.erased Syntax.imm (Syntax.tyArray Syntax.tyBool 256)) (List._∷_ (Syntax.tyStruct (List._∷_ 38 (List._∷_ 91 (List._∷_ 93 List.[]))) (Syntax.tcons (Syntax.tyRef Syntax.erased Syntax.imm Syntax.tyBool) (Syntax.tcons (Syntax.tyInt Syntax.w64) Syntax.tnil))) (List._∷_ (Syntax.tyEnum (List._∷_ 115 (List._∷_ 117 (List._∷_ 114 (List._∷_ 118 (List._∷_ 101 (List._∷_ 121 (List._∷_ 111 (List._∷_ 114 (List._∷_ 58 (List._∷_ 58 (List._∷_ 83 (List._∷_ 117 (List._∷_ 114 (List._∷_ 118 (List._∷_ 101 (List._∷_ 121 List.[])))))))))))))))) (Syntax.ttcons (Syntax.tcons (Syntax.tyEnum (List._∷_ 114 (List._∷_ 101 (List._∷_ 102 (List._∷_ 117 (List._∷_ 115 (List._∷_ 97 (List._∷_ 108 (List._∷_ 58 (List._∷_ 58 (List._∷_ 82 (List._∷_ 101 (List._∷_ 102 (List._∷_ 117 (List._∷_ 115 (List._∷_ 97 (List._∷_ 108 List.[])))))))))))))))) (Syntax.ttcons Syntax.tnil (Syntax.ttcons Syntax.tnil (Syntax.ttcons Syntax.tnil (Syntax.ttcons (Syntax.tcons (Syntax.tyStruct (List._∷_ 115 (List._∷_ 104 (List._∷_ 101 (List._∷_ 101 (List._∷_ 116 (List._∷_ 58 (List._∷_ 58 (List._∷_ 84 (List._∷_ 101 (List._∷_ 114 (List._∷_ 109 (List._∷_ 78 (List._∷_ 117 (List._∷_ 109 (List._∷_ 98 (List._∷_ 101 (List._∷_ 114 List.[]))))))))))))))))) (Syntax.tcons (Syntax.tyInt Syntax.w8) Syntax.tnil)) Syntax.tnil) (Syntax.ttcons (Syntax.tcons (Syntax.tyStruct (List._∷_ 115 (List._∷_ 104 (List._∷_ 101 (List._∷_ 101 (List._∷_ 116 (List._∷_ 58 (List._∷_ 58 (List._∷_ 69 (List._∷_ 110 (List._∷_ 116 (List._∷_ 114 (List._∷_ 121 (List._∷_ 78 (List._∷_ 117 (List._∷_ 109 (List._∷_ 98 (List._∷_ 101 (List._∷_ 114 List.[])))))))))))))))))) (Syntax.tcons (Syntax.tyInt Syntax.w8) Syntax.tnil)) Syntax.tnil) (Syntax.ttcons Syntax.tnil Syntax.ttnil))))))) Syntax.tnil) (Syntax.ttcons Syntax.tnil (Syntax.ttcons Syntax.tnil (Syntax.ttcons (Syntax.tcons (Syntax.tyInt Syntax.w8) Syntax.tnil) Syntax.ttnil))))) (List._∷_ (Syntax.tyInt Syntax.w8) List.[])))))))))))))))
+xs = List._∷_ (Syntax.tyArray Syntax.tyBool 256) (List._∷_ (Syntax.tyArray (Syntax.tyInt Syntax.w64) 2) (List._∷_ (Syntax.tyInt Syntax.w64) (List._∷_ (Syntax.tyInt Syntax.w64) (List._∷_ Syntax.tyBool (List._∷_ (Syntax.tyInt Syntax.w8) (List._∷_ Syntax.tyUnit (List._∷_ (Syntax.tyRef Syntax.erased Syntax.mut (Syntax.tyArray Syntax.tyBool 256)) (List._∷_ (Syntax.tyStruct (List._∷_ 38 (List._∷_ 91 (List._∷_ 93 List.[]))) (Syntax.tcons (Syntax.tyRef Syntax.erased Syntax.mut Syntax.tyBool) (Syntax.tcons (Syntax.tyInt Syntax.w64) Syntax.tnil))) (List._∷_ (Syntax.tyRef Syntax.erased Syntax.mut (Syntax.tyArray (Syntax.tyInt Syntax.w64) 2)) (List._∷_ (Syntax.tyStruct (List._∷_ 38 (List._∷_ 91 (List._∷_ 93 List.[]))) (Syntax.tcons (Syntax.tyRef Syntax.erased Syntax.mut (Syntax.tyInt Syntax.w64)) (Syntax.tcons (Syntax.tyInt Syntax.w64) Syntax.tnil))) (List._∷_ Syntax.tyBool (List._∷_ (Syntax.tyRef Syntax.erased Syntax.imm (Syntax.tyArray Syntax.tyBool 256)) (List._∷_ (Syntax.tyStruct (List._∷_ 38 (List._∷_ 91 (List._∷_ 93 List.[]))) (Syntax.tcons (Syntax.tyRef Syntax.erased Syntax.imm Syntax.tyBool) (Syntax.tcons (Syntax.tyInt Syntax.w64) Syntax.tnil))) (List._∷_ (Syntax.tyEnum (List._∷_ 115 (List._∷_ 117 (List._∷_ 114 (List._∷_ 118 (List._∷_ 101 (List._∷_ 121 (List._∷_ 111 (List._∷_ 114 (List._∷_ 58 (List._∷_ 58 (List._∷_ 83 (List._∷_ 117 (List._∷_ 114 (List._∷_ 118 (List._∷_ 101 (List._∷_ 121 List.[])))))))))))))))) (Syntax.ttcons (Syntax.tcons (Syntax.tyEnum (List._∷_ 114 (List._∷_ 101 (List._∷_ 102 (List._∷_ 117 (List._∷_ 115 (List._∷_ 97 (List._∷_ 108 (List._∷_ 58 (List._∷_ 58 (List._∷_ 82 (List._∷_ 101 (List._∷_ 102 (List._∷_ 117 (List._∷_ 115 (List._∷_ 97 (List._∷_ 108 List.[])))))))))))))))) (Syntax.ttcons Syntax.tnil (Syntax.ttcons Syntax.tnil (Syntax.ttcons Syntax.tnil (Syntax.ttcons (Syntax.tcons (Syntax.tyStruct (List._∷_ 115 (List._∷_ 104 (List._∷_ 101 (List._∷_ 101 (List._∷_ 116 (List._∷_ 58 (List._∷_ 58 (List._∷_ 84 (List._∷_ 101 (List._∷_ 114 (List._∷_ 109 (List._∷_ 78 (List._∷_ 117 (List._∷_ 109 (List._∷_ 98 (List._∷_ 101 (List._∷_ 114 List.[]))))))))))))))))) (Syntax.tcons (Syntax.tyInt Syntax.w8) Syntax.tnil)) Syntax.tnil) (Syntax.ttcons (Syntax.tcons (Syntax.tyStruct (List._∷_ 115 (List._∷_ 104 (List._∷_ 101 (List._∷_ 101 (List._∷_ 116 (List._∷_ 58 (List._∷_ 58 (List._∷_ 69 (List._∷_ 110 (List._∷_ 116 (List._∷_ 114 (List._∷_ 121 (List._∷_ 78 (List._∷_ 117 (List._∷_ 109 (List._∷_ 98 (List._∷_ 101 (List._∷_ 114 List.[])))))))))))))))))) (Syntax.tcons (Syntax.tyInt Syntax.w8) Syntax.tnil)) Syntax.tnil) (Syntax.ttcons Syntax.tnil Syntax.ttnil))))))) Syntax.tnil) (Syntax.ttcons Syntax.tnil (Syntax.ttcons Syntax.tnil (Syntax.ttcons (Syntax.tcons (Syntax.tyInt Syntax.w8) Syntax.tnil) Syntax.ttnil))))) (List._∷_ (Syntax.tyInt Syntax.w8) List.[])))))))))))))))
 
 abbrev pub m : Nat.ℕ
 m = 3
@@ -86,7 +86,7 @@ abbrev pub r·0 : Kinds.RK 1
 r·0 = Num.rNum Syntax.w64
 
 abbrev pub ps·1 : List.List (Kinds.PK 6)
-ps·1 = List._∷_ (ShrSlice.pShrS (Referent.rtF (Referent.fInt Syntax.w8)) 0 tt) (List._∷_ (ShrSlice.pShrS (Struct″.row StepT.the-type) 1 tt) (List._∷_ (ShrSlice.pShrS (Referent.rtF (Referent.fInt Syntax.w64)) 2 tt) (List._∷_ (ShrSlice.pShrS (Referent.rtF (Referent.fInt Syntax.w64)) 3 tt) (List._∷_ (Num.pNum Syntax.w64) (List._∷_ (MutSlice.pMutS (Referent.rtF Referent.fBool) 4 tt) (List._∷_ (MutSlice.pMutS (Referent.rtF Referent.fBool) 5 tt) List.[]))))))
+ps·1 = List._∷_ (ShrSlice.pShrS (Referent.rtF (Referent.fInt Syntax.w8)) 0 tt) (List._∷_ (ShrSlice.pShrS (Struct″.row StepT.the-type) 1 tt) (List._∷_ (ShrSlice.pShrS (Referent.rtF (Referent.fInt Syntax.w64)) 2 tt) (List._∷_ (ShrSlice.pShrS (Referent.rtF (Referent.fInt Syntax.w64)) 3 tt) (List._∷_ (Num.pNum Syntax.w64) (List._∷_ (MutSlice.pMutS (Referent.rtF Referent.fBool) 4 tt) (List._∷_ (MutSlice.pMutS (Referent.rtF (Referent.fInt Syntax.w64)) 5 tt) List.[]))))))
 
 abbrev pub r·1 : Kinds.RK 6
 r·1 = Unit'.rUnit
@@ -140,7 +140,7 @@ abbrev b10 : Syntax.Body
 b10 = Syntax.assign (Syntax.place 7 List.[]) (Syntax.repeat Syntax.opdFalse 256)
 
 abbrev b11 : Syntax.Body
-b11 = Syntax.assign (Syntax.place 8 List.[]) (Syntax.repeat Syntax.opdFalse 256)
+b11 = Syntax.assign (Syntax.place 8 List.[]) (Syntax.repeat (Syntax.int Syntax.w64 0) 2)
 
 abbrev b12 : Syntax.Body
 b12 = Syntax.assign (Syntax.place 14 List.[]) (Syntax.addrOf (Syntax.place 7 List.[]))
@@ -152,7 +152,7 @@ abbrev b14 : Syntax.Body
 b14 = Syntax.assign (Syntax.place 16 List.[]) (Syntax.addrOf (Syntax.place 8 List.[]))
 
 abbrev b15 : Syntax.Body
-b15 = Syntax.assign (Syntax.place 17 List.[]) (Syntax.aggregate (List._∷_ (Syntax.copy (Syntax.place 16 List.[])) (List._∷_ (Syntax.int Syntax.w64 256) List.[])))
+b15 = Syntax.assign (Syntax.place 17 List.[]) (Syntax.aggregate (List._∷_ (Syntax.copy (Syntax.place 16 List.[])) (List._∷_ (Syntax.int Syntax.w64 2) List.[])))
 
 abbrev b16 : Syntax.Body
 b16 = Syntax.call "gathered::gather" (List._∷_ (Syntax.copy (Syntax.place 1 List.[])) (List._∷_ (Syntax.copy (Syntax.place 5 List.[])) (List._∷_ (Syntax.copy (Syntax.place 3 List.[])) (List._∷_ (Syntax.copy (Syntax.place 4 List.[])) (List._∷_ (Syntax.copy (Syntax.place 6 List.[])) (List._∷_ (Syntax.copy (Syntax.place 15 List.[])) (List._∷_ (Syntax.copy (Syntax.place 17 List.[])) List.[]))))))) (Syntax.place 13 List.[])
@@ -248,103 +248,103 @@ abbrev pub Claims : Type 1
 Claims = Kinds.In 1 ps·0 × Kinds.Out 1 ps·0 r·0 × Kinds.In 6 ps·1 × Kinds.Out 6 ps·1 r·1 × Kinds.In 1 ps·2 × Kinds.Out 1 ps·2 r·2 × Kinds.In 2 ps·3 × Kinds.Out 2 ps·3 r·3
 
 abbrev pub t0 : List.List Row.Entry
-t0 = List._∷_ (0, Rows'.any-gone (Syntax.tyEnum (List._∷_ 115 (List._∷_ 117 (List._∷_ 114 (List._∷_ 118 (List._∷_ 101 (List._∷_ 121 (List._∷_ 111 (List._∷_ 114 (List._∷_ 58 (List._∷_ 58 (List._∷_ 83 (List._∷_ 117 (List._∷_ 114 (List._∷_ 118 (List._∷_ 101 (List._∷_ 121 List.[])))))))))))))))) (Syntax.ttcons (Syntax.tcons (Syntax.tyEnum (List._∷_ 114 (List._∷_ 101 (List._∷_ 102 (List._∷_ 117 (List._∷_ 115 (List._∷_ 97 (List._∷_ 108 (List._∷_ 58 (List._∷_ 58 (List._∷_ 82 (List._∷_ 101 (List._∷_ 102 (List._∷_ 117 (List._∷_ 115 (List._∷_ 97 (List._∷_ 108 List.[])))))))))))))))) (Syntax.ttcons Syntax.tnil (Syntax.ttcons Syntax.tnil (Syntax.ttcons Syntax.tnil (Syntax.ttcons (Syntax.tcons (Syntax.tyStruct (List._∷_ 115 (List._∷_ 104 (List._∷_ 101 (List._∷_ 101 (List._∷_ 116 (List._∷_ 58 (List._∷_ 58 (List._∷_ 84 (List._∷_ 101 (List._∷_ 114 (List._∷_ 109 (List._∷_ 78 (List._∷_ 117 (List._∷_ 109 (List._∷_ 98 (List._∷_ 101 (List._∷_ 114 List.[]))))))))))))))))) (Syntax.tcons (Syntax.tyInt Syntax.w8) Syntax.tnil)) Syntax.tnil) (Syntax.ttcons (Syntax.tcons (Syntax.tyStruct (List._∷_ 115 (List._∷_ 104 (List._∷_ 101 (List._∷_ 101 (List._∷_ 116 (List._∷_ 58 (List._∷_ 58 (List._∷_ 69 (List._∷_ 110 (List._∷_ 116 (List._∷_ 114 (List._∷_ 121 (List._∷_ 78 (List._∷_ 117 (List._∷_ 109 (List._∷_ 98 (List._∷_ 101 (List._∷_ 114 List.[])))))))))))))))))) (Syntax.tcons (Syntax.tyInt Syntax.w8) Syntax.tnil)) Syntax.tnil) (Syntax.ttcons Syntax.tnil Syntax.ttnil))))))) Syntax.tnil) (Syntax.ttcons Syntax.tnil (Syntax.ttcons Syntax.tnil (Syntax.ttcons (Syntax.tcons (Syntax.tyInt Syntax.w8) Syntax.tnil) Syntax.ttnil)))))) (List._∷_ (1, Rows'.sslice (Referent.rtF (Referent.fInt Syntax.w8)) (Syntax.tyRef (Syntax.named 0) Syntax.imm (Syntax.tyInt Syntax.w8)) 0) (List._∷_ (2, Rows'.sslice (Referent.rtF Referent.fBool) (Syntax.tyRef (Syntax.named 1) Syntax.imm Syntax.tyBool) 1) (List._∷_ (3, Rows'.sslice (Referent.rtF (Referent.fInt Syntax.w64)) (Syntax.tyRef (Syntax.named 2) Syntax.imm (Syntax.tyInt Syntax.w64)) 2) (List._∷_ (4, Rows'.sslice (Referent.rtF (Referent.fInt Syntax.w64)) (Syntax.tyRef (Syntax.named 3) Syntax.imm (Syntax.tyInt Syntax.w64)) 3) (List._∷_ (5, Rows'.sslice (Struct″.row StepT.the-type) (Syntax.tyRef (Syntax.named 4) Syntax.imm (Memory″.pointee ((Struct″.row StepT.the-type) .written))) 4) (List._∷_ (6, Rows'.sc-here (Row.sInt Syntax.w64)) (List._∷_ (7, Rows'.any-gone (Syntax.tyArray Syntax.tyBool 256)) (List._∷_ (8, Rows'.any-gone (Syntax.tyArray Syntax.tyBool 256)) (List._∷_ (9, Rows'.any-gone (Syntax.tyInt Syntax.w64)) (List._∷_ (10, Rows'.any-gone (Syntax.tyInt Syntax.w64)) (List._∷_ (11, Rows'.any-gone Syntax.tyBool) (List._∷_ (12, Rows'.any-gone (Syntax.tyInt Syntax.w8)) (List._∷_ (13, Rows'.any-gone Syntax.tyUnit) (List._∷_ (14, Rows'.any-gone (Syntax.tyRef Syntax.erased Syntax.mut (Syntax.tyArray Syntax.tyBool 256))) (List._∷_ (15, Rows'.any-gone (Syntax.tyStruct (List._∷_ 38 (List._∷_ 91 (List._∷_ 93 List.[]))) (Syntax.tcons (Syntax.tyRef Syntax.erased Syntax.mut Syntax.tyBool) (Syntax.tcons (Syntax.tyInt Syntax.w64) Syntax.tnil)))) List.[])))))))))))))))
+t0 = List._∷_ (0, Rows'.any-gone (Syntax.tyEnum (List._∷_ 115 (List._∷_ 117 (List._∷_ 114 (List._∷_ 118 (List._∷_ 101 (List._∷_ 121 (List._∷_ 111 (List._∷_ 114 (List._∷_ 58 (List._∷_ 58 (List._∷_ 83 (List._∷_ 117 (List._∷_ 114 (List._∷_ 118 (List._∷_ 101 (List._∷_ 121 List.[])))))))))))))))) (Syntax.ttcons (Syntax.tcons (Syntax.tyEnum (List._∷_ 114 (List._∷_ 101 (List._∷_ 102 (List._∷_ 117 (List._∷_ 115 (List._∷_ 97 (List._∷_ 108 (List._∷_ 58 (List._∷_ 58 (List._∷_ 82 (List._∷_ 101 (List._∷_ 102 (List._∷_ 117 (List._∷_ 115 (List._∷_ 97 (List._∷_ 108 List.[])))))))))))))))) (Syntax.ttcons Syntax.tnil (Syntax.ttcons Syntax.tnil (Syntax.ttcons Syntax.tnil (Syntax.ttcons (Syntax.tcons (Syntax.tyStruct (List._∷_ 115 (List._∷_ 104 (List._∷_ 101 (List._∷_ 101 (List._∷_ 116 (List._∷_ 58 (List._∷_ 58 (List._∷_ 84 (List._∷_ 101 (List._∷_ 114 (List._∷_ 109 (List._∷_ 78 (List._∷_ 117 (List._∷_ 109 (List._∷_ 98 (List._∷_ 101 (List._∷_ 114 List.[]))))))))))))))))) (Syntax.tcons (Syntax.tyInt Syntax.w8) Syntax.tnil)) Syntax.tnil) (Syntax.ttcons (Syntax.tcons (Syntax.tyStruct (List._∷_ 115 (List._∷_ 104 (List._∷_ 101 (List._∷_ 101 (List._∷_ 116 (List._∷_ 58 (List._∷_ 58 (List._∷_ 69 (List._∷_ 110 (List._∷_ 116 (List._∷_ 114 (List._∷_ 121 (List._∷_ 78 (List._∷_ 117 (List._∷_ 109 (List._∷_ 98 (List._∷_ 101 (List._∷_ 114 List.[])))))))))))))))))) (Syntax.tcons (Syntax.tyInt Syntax.w8) Syntax.tnil)) Syntax.tnil) (Syntax.ttcons Syntax.tnil Syntax.ttnil))))))) Syntax.tnil) (Syntax.ttcons Syntax.tnil (Syntax.ttcons Syntax.tnil (Syntax.ttcons (Syntax.tcons (Syntax.tyInt Syntax.w8) Syntax.tnil) Syntax.ttnil)))))) (List._∷_ (1, Rows'.sslice (Referent.rtF (Referent.fInt Syntax.w8)) (Syntax.tyRef (Syntax.named 0) Syntax.imm (Syntax.tyInt Syntax.w8)) 0) (List._∷_ (2, Rows'.sslice (Referent.rtF Referent.fBool) (Syntax.tyRef (Syntax.named 1) Syntax.imm Syntax.tyBool) 1) (List._∷_ (3, Rows'.sslice (Referent.rtF (Referent.fInt Syntax.w64)) (Syntax.tyRef (Syntax.named 2) Syntax.imm (Syntax.tyInt Syntax.w64)) 2) (List._∷_ (4, Rows'.sslice (Referent.rtF (Referent.fInt Syntax.w64)) (Syntax.tyRef (Syntax.named 3) Syntax.imm (Syntax.tyInt Syntax.w64)) 3) (List._∷_ (5, Rows'.sslice (Struct″.row StepT.the-type) (Syntax.tyRef (Syntax.named 4) Syntax.imm (Memory″.pointee ((Struct″.row StepT.the-type) .written))) 4) (List._∷_ (6, Rows'.sc-here (Row.sInt Syntax.w64)) (List._∷_ (7, Rows'.any-gone (Syntax.tyArray Syntax.tyBool 256)) (List._∷_ (8, Rows'.any-gone (Syntax.tyArray (Syntax.tyInt Syntax.w64) 2)) (List._∷_ (9, Rows'.any-gone (Syntax.tyInt Syntax.w64)) (List._∷_ (10, Rows'.any-gone (Syntax.tyInt Syntax.w64)) (List._∷_ (11, Rows'.any-gone Syntax.tyBool) (List._∷_ (12, Rows'.any-gone (Syntax.tyInt Syntax.w8)) (List._∷_ (13, Rows'.any-gone Syntax.tyUnit) (List._∷_ (14, Rows'.any-gone (Syntax.tyRef Syntax.erased Syntax.mut (Syntax.tyArray Syntax.tyBool 256))) (List._∷_ (15, Rows'.any-gone (Syntax.tyStruct (List._∷_ 38 (List._∷_ 91 (List._∷_ 93 List.[]))) (Syntax.tcons (Syntax.tyRef Syntax.erased Syntax.mut Syntax.tyBool) (Syntax.tcons (Syntax.tyInt Syntax.w64) Syntax.tnil)))) List.[])))))))))))))))
 
 abbrev pub t1 : List.List Row.Entry
-t1 = List._∷_ (16, Rows'.any-gone (Syntax.tyRef Syntax.erased Syntax.mut (Syntax.tyArray Syntax.tyBool 256))) (List._∷_ (17, Rows'.any-gone (Syntax.tyStruct (List._∷_ 38 (List._∷_ 91 (List._∷_ 93 List.[]))) (Syntax.tcons (Syntax.tyRef Syntax.erased Syntax.mut Syntax.tyBool) (Syntax.tcons (Syntax.tyInt Syntax.w64) Syntax.tnil)))) (List._∷_ (18, Rows'.any-gone Syntax.tyBool) (List._∷_ (19, Rows'.any-gone (Syntax.tyRef Syntax.erased Syntax.imm (Syntax.tyArray Syntax.tyBool 256))) (List._∷_ (20, Rows'.any-gone (Syntax.tyStruct (List._∷_ 38 (List._∷_ 91 (List._∷_ 93 List.[]))) (Syntax.tcons (Syntax.tyRef Syntax.erased Syntax.imm Syntax.tyBool) (Syntax.tcons (Syntax.tyInt Syntax.w64) Syntax.tnil)))) (List._∷_ (21, Rows'.any-gone (Syntax.tyEnum (List._∷_ 115 (List._∷_ 117 (List._∷_ 114 (List._∷_ 118 (List._∷_ 101 (List._∷_ 121 (List._∷_ 111 (List._∷_ 114 (List._∷_ 58 (List._∷_ 58 (List._∷_ 83 (List._∷_ 117 (List._∷_ 114 (List._∷_ 118 (List._∷_ 101 (List._∷_ 121 List.[])))))))))))))))) (Syntax.ttcons (Syntax.tcons (Syntax.tyEnum (List._∷_ 114 (List._∷_ 101 (List._∷_ 102 (List._∷_ 117 (List._∷_ 115 (List._∷_ 97 (List._∷_ 108 (List._∷_ 58 (List._∷_ 58 (List._∷_ 82 (List._∷_ 101 (List._∷_ 102 (List._∷_ 117 (List._∷_ 115 (List._∷_ 97 (List._∷_ 108 List.[])))))))))))))))) (Syntax.ttcons Syntax.tnil (Syntax.ttcons Syntax.tnil (Syntax.ttcons Syntax.tnil (Syntax.ttcons (Syntax.tcons (Syntax.tyStruct (List._∷_ 115 (List._∷_ 104 (List._∷_ 101 (List._∷_ 101 (List._∷_ 116 (List._∷_ 58 (List._∷_ 58 (List._∷_ 84 (List._∷_ 101 (List._∷_ 114 (List._∷_ 109 (List._∷_ 78 (List._∷_ 117 (List._∷_ 109 (List._∷_ 98 (List._∷_ 101 (List._∷_ 114 List.[]))))))))))))))))) (Syntax.tcons (Syntax.tyInt Syntax.w8) Syntax.tnil)) Syntax.tnil) (Syntax.ttcons (Syntax.tcons (Syntax.tyStruct (List._∷_ 115 (List._∷_ 104 (List._∷_ 101 (List._∷_ 101 (List._∷_ 116 (List._∷_ 58 (List._∷_ 58 (List._∷_ 69 (List._∷_ 110 (List._∷_ 116 (List._∷_ 114 (List._∷_ 121 (List._∷_ 78 (List._∷_ 117 (List._∷_ 109 (List._∷_ 98 (List._∷_ 101 (List._∷_ 114 List.[])))))))))))))))))) (Syntax.tcons (Syntax.tyInt Syntax.w8) Syntax.tnil)) Syntax.tnil) (Syntax.ttcons Syntax.tnil Syntax.ttnil))))))) Syntax.tnil) (Syntax.ttcons Syntax.tnil (Syntax.ttcons Syntax.tnil (Syntax.ttcons (Syntax.tcons (Syntax.tyInt Syntax.w8) Syntax.tnil) Syntax.ttnil)))))) (List._∷_ (22, Rows'.any-gone (Syntax.tyInt Syntax.w8)) List.[]))))))
+t1 = List._∷_ (16, Rows'.any-gone (Syntax.tyRef Syntax.erased Syntax.mut (Syntax.tyArray (Syntax.tyInt Syntax.w64) 2))) (List._∷_ (17, Rows'.any-gone (Syntax.tyStruct (List._∷_ 38 (List._∷_ 91 (List._∷_ 93 List.[]))) (Syntax.tcons (Syntax.tyRef Syntax.erased Syntax.mut (Syntax.tyInt Syntax.w64)) (Syntax.tcons (Syntax.tyInt Syntax.w64) Syntax.tnil)))) (List._∷_ (18, Rows'.any-gone Syntax.tyBool) (List._∷_ (19, Rows'.any-gone (Syntax.tyRef Syntax.erased Syntax.imm (Syntax.tyArray Syntax.tyBool 256))) (List._∷_ (20, Rows'.any-gone (Syntax.tyStruct (List._∷_ 38 (List._∷_ 91 (List._∷_ 93 List.[]))) (Syntax.tcons (Syntax.tyRef Syntax.erased Syntax.imm Syntax.tyBool) (Syntax.tcons (Syntax.tyInt Syntax.w64) Syntax.tnil)))) (List._∷_ (21, Rows'.any-gone (Syntax.tyEnum (List._∷_ 115 (List._∷_ 117 (List._∷_ 114 (List._∷_ 118 (List._∷_ 101 (List._∷_ 121 (List._∷_ 111 (List._∷_ 114 (List._∷_ 58 (List._∷_ 58 (List._∷_ 83 (List._∷_ 117 (List._∷_ 114 (List._∷_ 118 (List._∷_ 101 (List._∷_ 121 List.[])))))))))))))))) (Syntax.ttcons (Syntax.tcons (Syntax.tyEnum (List._∷_ 114 (List._∷_ 101 (List._∷_ 102 (List._∷_ 117 (List._∷_ 115 (List._∷_ 97 (List._∷_ 108 (List._∷_ 58 (List._∷_ 58 (List._∷_ 82 (List._∷_ 101 (List._∷_ 102 (List._∷_ 117 (List._∷_ 115 (List._∷_ 97 (List._∷_ 108 List.[])))))))))))))))) (Syntax.ttcons Syntax.tnil (Syntax.ttcons Syntax.tnil (Syntax.ttcons Syntax.tnil (Syntax.ttcons (Syntax.tcons (Syntax.tyStruct (List._∷_ 115 (List._∷_ 104 (List._∷_ 101 (List._∷_ 101 (List._∷_ 116 (List._∷_ 58 (List._∷_ 58 (List._∷_ 84 (List._∷_ 101 (List._∷_ 114 (List._∷_ 109 (List._∷_ 78 (List._∷_ 117 (List._∷_ 109 (List._∷_ 98 (List._∷_ 101 (List._∷_ 114 List.[]))))))))))))))))) (Syntax.tcons (Syntax.tyInt Syntax.w8) Syntax.tnil)) Syntax.tnil) (Syntax.ttcons (Syntax.tcons (Syntax.tyStruct (List._∷_ 115 (List._∷_ 104 (List._∷_ 101 (List._∷_ 101 (List._∷_ 116 (List._∷_ 58 (List._∷_ 58 (List._∷_ 69 (List._∷_ 110 (List._∷_ 116 (List._∷_ 114 (List._∷_ 121 (List._∷_ 78 (List._∷_ 117 (List._∷_ 109 (List._∷_ 98 (List._∷_ 101 (List._∷_ 114 List.[])))))))))))))))))) (Syntax.tcons (Syntax.tyInt Syntax.w8) Syntax.tnil)) Syntax.tnil) (Syntax.ttcons Syntax.tnil Syntax.ttnil))))))) Syntax.tnil) (Syntax.ttcons Syntax.tnil (Syntax.ttcons Syntax.tnil (Syntax.ttcons (Syntax.tcons (Syntax.tyInt Syntax.w8) Syntax.tnil) Syntax.ttnil)))))) (List._∷_ (22, Rows'.any-gone (Syntax.tyInt Syntax.w8)) List.[]))))))
 
 abbrev pub t2 : List.List Row.Entry
-t2 = List._∷_ (0, Rows'.whole (Declared.row Survey.the-type)) (List._∷_ (1, Rows'.sslice (Referent.rtF (Referent.fInt Syntax.w8)) (Syntax.tyRef (Syntax.named 0) Syntax.imm (Syntax.tyInt Syntax.w8)) 0) (List._∷_ (2, Rows'.sslice (Referent.rtF Referent.fBool) (Syntax.tyRef (Syntax.named 1) Syntax.imm Syntax.tyBool) 1) (List._∷_ (3, Rows'.sslice (Referent.rtF (Referent.fInt Syntax.w64)) (Syntax.tyRef (Syntax.named 2) Syntax.imm (Syntax.tyInt Syntax.w64)) 2) (List._∷_ (4, Rows'.sslice (Referent.rtF (Referent.fInt Syntax.w64)) (Syntax.tyRef (Syntax.named 3) Syntax.imm (Syntax.tyInt Syntax.w64)) 3) (List._∷_ (5, Rows'.sslice (Struct″.row StepT.the-type) (Syntax.tyRef (Syntax.named 4) Syntax.imm (Memory″.pointee ((Struct″.row StepT.the-type) .written))) 4) (List._∷_ (6, Rows'.any-gone (Syntax.tyInt Syntax.w64)) (List._∷_ (7, Rows'.any-gone (Syntax.tyArray Syntax.tyBool 256)) (List._∷_ (8, Rows'.any-gone (Syntax.tyArray Syntax.tyBool 256)) (List._∷_ (9, Rows'.any-gone (Syntax.tyInt Syntax.w64)) (List._∷_ (10, Rows'.any-gone (Syntax.tyInt Syntax.w64)) (List._∷_ (11, Rows'.any-gone Syntax.tyBool) (List._∷_ (12, Rows'.any-gone (Syntax.tyInt Syntax.w8)) (List._∷_ (13, Rows'.any-gone Syntax.tyUnit) (List._∷_ (14, Rows'.any-gone (Syntax.tyRef Syntax.erased Syntax.mut (Syntax.tyArray Syntax.tyBool 256))) (List._∷_ (15, Rows'.any-gone (Syntax.tyStruct (List._∷_ 38 (List._∷_ 91 (List._∷_ 93 List.[]))) (Syntax.tcons (Syntax.tyRef Syntax.erased Syntax.mut Syntax.tyBool) (Syntax.tcons (Syntax.tyInt Syntax.w64) Syntax.tnil)))) List.[])))))))))))))))
+t2 = List._∷_ (0, Rows'.whole (Declared.row Survey.the-type)) (List._∷_ (1, Rows'.sslice (Referent.rtF (Referent.fInt Syntax.w8)) (Syntax.tyRef (Syntax.named 0) Syntax.imm (Syntax.tyInt Syntax.w8)) 0) (List._∷_ (2, Rows'.sslice (Referent.rtF Referent.fBool) (Syntax.tyRef (Syntax.named 1) Syntax.imm Syntax.tyBool) 1) (List._∷_ (3, Rows'.sslice (Referent.rtF (Referent.fInt Syntax.w64)) (Syntax.tyRef (Syntax.named 2) Syntax.imm (Syntax.tyInt Syntax.w64)) 2) (List._∷_ (4, Rows'.sslice (Referent.rtF (Referent.fInt Syntax.w64)) (Syntax.tyRef (Syntax.named 3) Syntax.imm (Syntax.tyInt Syntax.w64)) 3) (List._∷_ (5, Rows'.sslice (Struct″.row StepT.the-type) (Syntax.tyRef (Syntax.named 4) Syntax.imm (Memory″.pointee ((Struct″.row StepT.the-type) .written))) 4) (List._∷_ (6, Rows'.any-gone (Syntax.tyInt Syntax.w64)) (List._∷_ (7, Rows'.any-gone (Syntax.tyArray Syntax.tyBool 256)) (List._∷_ (8, Rows'.any-gone (Syntax.tyArray (Syntax.tyInt Syntax.w64) 2)) (List._∷_ (9, Rows'.any-gone (Syntax.tyInt Syntax.w64)) (List._∷_ (10, Rows'.any-gone (Syntax.tyInt Syntax.w64)) (List._∷_ (11, Rows'.any-gone Syntax.tyBool) (List._∷_ (12, Rows'.any-gone (Syntax.tyInt Syntax.w8)) (List._∷_ (13, Rows'.any-gone Syntax.tyUnit) (List._∷_ (14, Rows'.any-gone (Syntax.tyRef Syntax.erased Syntax.mut (Syntax.tyArray Syntax.tyBool 256))) (List._∷_ (15, Rows'.any-gone (Syntax.tyStruct (List._∷_ 38 (List._∷_ 91 (List._∷_ 93 List.[]))) (Syntax.tcons (Syntax.tyRef Syntax.erased Syntax.mut Syntax.tyBool) (Syntax.tcons (Syntax.tyInt Syntax.w64) Syntax.tnil)))) List.[])))))))))))))))
 
 abbrev pub t3 : List.List Row.Entry
-t3 = List._∷_ (0, Rows'.any-gone (Syntax.tyEnum (List._∷_ 115 (List._∷_ 117 (List._∷_ 114 (List._∷_ 118 (List._∷_ 101 (List._∷_ 121 (List._∷_ 111 (List._∷_ 114 (List._∷_ 58 (List._∷_ 58 (List._∷_ 83 (List._∷_ 117 (List._∷_ 114 (List._∷_ 118 (List._∷_ 101 (List._∷_ 121 List.[])))))))))))))))) (Syntax.ttcons (Syntax.tcons (Syntax.tyEnum (List._∷_ 114 (List._∷_ 101 (List._∷_ 102 (List._∷_ 117 (List._∷_ 115 (List._∷_ 97 (List._∷_ 108 (List._∷_ 58 (List._∷_ 58 (List._∷_ 82 (List._∷_ 101 (List._∷_ 102 (List._∷_ 117 (List._∷_ 115 (List._∷_ 97 (List._∷_ 108 List.[])))))))))))))))) (Syntax.ttcons Syntax.tnil (Syntax.ttcons Syntax.tnil (Syntax.ttcons Syntax.tnil (Syntax.ttcons (Syntax.tcons (Syntax.tyStruct (List._∷_ 115 (List._∷_ 104 (List._∷_ 101 (List._∷_ 101 (List._∷_ 116 (List._∷_ 58 (List._∷_ 58 (List._∷_ 84 (List._∷_ 101 (List._∷_ 114 (List._∷_ 109 (List._∷_ 78 (List._∷_ 117 (List._∷_ 109 (List._∷_ 98 (List._∷_ 101 (List._∷_ 114 List.[]))))))))))))))))) (Syntax.tcons (Syntax.tyInt Syntax.w8) Syntax.tnil)) Syntax.tnil) (Syntax.ttcons (Syntax.tcons (Syntax.tyStruct (List._∷_ 115 (List._∷_ 104 (List._∷_ 101 (List._∷_ 101 (List._∷_ 116 (List._∷_ 58 (List._∷_ 58 (List._∷_ 69 (List._∷_ 110 (List._∷_ 116 (List._∷_ 114 (List._∷_ 121 (List._∷_ 78 (List._∷_ 117 (List._∷_ 109 (List._∷_ 98 (List._∷_ 101 (List._∷_ 114 List.[])))))))))))))))))) (Syntax.tcons (Syntax.tyInt Syntax.w8) Syntax.tnil)) Syntax.tnil) (Syntax.ttcons Syntax.tnil Syntax.ttnil))))))) Syntax.tnil) (Syntax.ttcons Syntax.tnil (Syntax.ttcons Syntax.tnil (Syntax.ttcons (Syntax.tcons (Syntax.tyInt Syntax.w8) Syntax.tnil) Syntax.ttnil)))))) (List._∷_ (1, Rows'.sslice (Referent.rtF (Referent.fInt Syntax.w8)) (Syntax.tyRef (Syntax.named 0) Syntax.imm (Syntax.tyInt Syntax.w8)) 0) (List._∷_ (2, Rows'.sslice (Referent.rtF Referent.fBool) (Syntax.tyRef (Syntax.named 1) Syntax.imm Syntax.tyBool) 1) (List._∷_ (3, Rows'.sslice (Referent.rtF (Referent.fInt Syntax.w64)) (Syntax.tyRef (Syntax.named 2) Syntax.imm (Syntax.tyInt Syntax.w64)) 2) (List._∷_ (4, Rows'.sslice (Referent.rtF (Referent.fInt Syntax.w64)) (Syntax.tyRef (Syntax.named 3) Syntax.imm (Syntax.tyInt Syntax.w64)) 3) (List._∷_ (5, Rows'.sslice (Struct″.row StepT.the-type) (Syntax.tyRef (Syntax.named 4) Syntax.imm (Memory″.pointee ((Struct″.row StepT.the-type) .written))) 4) (List._∷_ (6, Rows'.sc-here (Row.sInt Syntax.w64)) (List._∷_ (7, Rows'.any-gone (Syntax.tyArray Syntax.tyBool 256)) (List._∷_ (8, Rows'.any-gone (Syntax.tyArray Syntax.tyBool 256)) (List._∷_ (9, Rows'.sc-here (Row.sInt Syntax.w64)) (List._∷_ (10, Rows'.any-gone (Syntax.tyInt Syntax.w64)) (List._∷_ (11, Rows'.any-gone Syntax.tyBool) (List._∷_ (12, Rows'.any-gone (Syntax.tyInt Syntax.w8)) (List._∷_ (13, Rows'.any-gone Syntax.tyUnit) (List._∷_ (14, Rows'.any-gone (Syntax.tyRef Syntax.erased Syntax.mut (Syntax.tyArray Syntax.tyBool 256))) (List._∷_ (15, Rows'.any-gone (Syntax.tyStruct (List._∷_ 38 (List._∷_ 91 (List._∷_ 93 List.[]))) (Syntax.tcons (Syntax.tyRef Syntax.erased Syntax.mut Syntax.tyBool) (Syntax.tcons (Syntax.tyInt Syntax.w64) Syntax.tnil)))) List.[])))))))))))))))
+t3 = List._∷_ (0, Rows'.any-gone (Syntax.tyEnum (List._∷_ 115 (List._∷_ 117 (List._∷_ 114 (List._∷_ 118 (List._∷_ 101 (List._∷_ 121 (List._∷_ 111 (List._∷_ 114 (List._∷_ 58 (List._∷_ 58 (List._∷_ 83 (List._∷_ 117 (List._∷_ 114 (List._∷_ 118 (List._∷_ 101 (List._∷_ 121 List.[])))))))))))))))) (Syntax.ttcons (Syntax.tcons (Syntax.tyEnum (List._∷_ 114 (List._∷_ 101 (List._∷_ 102 (List._∷_ 117 (List._∷_ 115 (List._∷_ 97 (List._∷_ 108 (List._∷_ 58 (List._∷_ 58 (List._∷_ 82 (List._∷_ 101 (List._∷_ 102 (List._∷_ 117 (List._∷_ 115 (List._∷_ 97 (List._∷_ 108 List.[])))))))))))))))) (Syntax.ttcons Syntax.tnil (Syntax.ttcons Syntax.tnil (Syntax.ttcons Syntax.tnil (Syntax.ttcons (Syntax.tcons (Syntax.tyStruct (List._∷_ 115 (List._∷_ 104 (List._∷_ 101 (List._∷_ 101 (List._∷_ 116 (List._∷_ 58 (List._∷_ 58 (List._∷_ 84 (List._∷_ 101 (List._∷_ 114 (List._∷_ 109 (List._∷_ 78 (List._∷_ 117 (List._∷_ 109 (List._∷_ 98 (List._∷_ 101 (List._∷_ 114 List.[]))))))))))))))))) (Syntax.tcons (Syntax.tyInt Syntax.w8) Syntax.tnil)) Syntax.tnil) (Syntax.ttcons (Syntax.tcons (Syntax.tyStruct (List._∷_ 115 (List._∷_ 104 (List._∷_ 101 (List._∷_ 101 (List._∷_ 116 (List._∷_ 58 (List._∷_ 58 (List._∷_ 69 (List._∷_ 110 (List._∷_ 116 (List._∷_ 114 (List._∷_ 121 (List._∷_ 78 (List._∷_ 117 (List._∷_ 109 (List._∷_ 98 (List._∷_ 101 (List._∷_ 114 List.[])))))))))))))))))) (Syntax.tcons (Syntax.tyInt Syntax.w8) Syntax.tnil)) Syntax.tnil) (Syntax.ttcons Syntax.tnil Syntax.ttnil))))))) Syntax.tnil) (Syntax.ttcons Syntax.tnil (Syntax.ttcons Syntax.tnil (Syntax.ttcons (Syntax.tcons (Syntax.tyInt Syntax.w8) Syntax.tnil) Syntax.ttnil)))))) (List._∷_ (1, Rows'.sslice (Referent.rtF (Referent.fInt Syntax.w8)) (Syntax.tyRef (Syntax.named 0) Syntax.imm (Syntax.tyInt Syntax.w8)) 0) (List._∷_ (2, Rows'.sslice (Referent.rtF Referent.fBool) (Syntax.tyRef (Syntax.named 1) Syntax.imm Syntax.tyBool) 1) (List._∷_ (3, Rows'.sslice (Referent.rtF (Referent.fInt Syntax.w64)) (Syntax.tyRef (Syntax.named 2) Syntax.imm (Syntax.tyInt Syntax.w64)) 2) (List._∷_ (4, Rows'.sslice (Referent.rtF (Referent.fInt Syntax.w64)) (Syntax.tyRef (Syntax.named 3) Syntax.imm (Syntax.tyInt Syntax.w64)) 3) (List._∷_ (5, Rows'.sslice (Struct″.row StepT.the-type) (Syntax.tyRef (Syntax.named 4) Syntax.imm (Memory″.pointee ((Struct″.row StepT.the-type) .written))) 4) (List._∷_ (6, Rows'.sc-here (Row.sInt Syntax.w64)) (List._∷_ (7, Rows'.any-gone (Syntax.tyArray Syntax.tyBool 256)) (List._∷_ (8, Rows'.any-gone (Syntax.tyArray (Syntax.tyInt Syntax.w64) 2)) (List._∷_ (9, Rows'.sc-here (Row.sInt Syntax.w64)) (List._∷_ (10, Rows'.any-gone (Syntax.tyInt Syntax.w64)) (List._∷_ (11, Rows'.any-gone Syntax.tyBool) (List._∷_ (12, Rows'.any-gone (Syntax.tyInt Syntax.w8)) (List._∷_ (13, Rows'.any-gone Syntax.tyUnit) (List._∷_ (14, Rows'.any-gone (Syntax.tyRef Syntax.erased Syntax.mut (Syntax.tyArray Syntax.tyBool 256))) (List._∷_ (15, Rows'.any-gone (Syntax.tyStruct (List._∷_ 38 (List._∷_ 91 (List._∷_ 93 List.[]))) (Syntax.tcons (Syntax.tyRef Syntax.erased Syntax.mut Syntax.tyBool) (Syntax.tcons (Syntax.tyInt Syntax.w64) Syntax.tnil)))) List.[])))))))))))))))
 
 abbrev pub t4 : List.List Row.Entry
-t4 = List._∷_ (0, Rows'.any-gone (Syntax.tyEnum (List._∷_ 115 (List._∷_ 117 (List._∷_ 114 (List._∷_ 118 (List._∷_ 101 (List._∷_ 121 (List._∷_ 111 (List._∷_ 114 (List._∷_ 58 (List._∷_ 58 (List._∷_ 83 (List._∷_ 117 (List._∷_ 114 (List._∷_ 118 (List._∷_ 101 (List._∷_ 121 List.[])))))))))))))))) (Syntax.ttcons (Syntax.tcons (Syntax.tyEnum (List._∷_ 114 (List._∷_ 101 (List._∷_ 102 (List._∷_ 117 (List._∷_ 115 (List._∷_ 97 (List._∷_ 108 (List._∷_ 58 (List._∷_ 58 (List._∷_ 82 (List._∷_ 101 (List._∷_ 102 (List._∷_ 117 (List._∷_ 115 (List._∷_ 97 (List._∷_ 108 List.[])))))))))))))))) (Syntax.ttcons Syntax.tnil (Syntax.ttcons Syntax.tnil (Syntax.ttcons Syntax.tnil (Syntax.ttcons (Syntax.tcons (Syntax.tyStruct (List._∷_ 115 (List._∷_ 104 (List._∷_ 101 (List._∷_ 101 (List._∷_ 116 (List._∷_ 58 (List._∷_ 58 (List._∷_ 84 (List._∷_ 101 (List._∷_ 114 (List._∷_ 109 (List._∷_ 78 (List._∷_ 117 (List._∷_ 109 (List._∷_ 98 (List._∷_ 101 (List._∷_ 114 List.[]))))))))))))))))) (Syntax.tcons (Syntax.tyInt Syntax.w8) Syntax.tnil)) Syntax.tnil) (Syntax.ttcons (Syntax.tcons (Syntax.tyStruct (List._∷_ 115 (List._∷_ 104 (List._∷_ 101 (List._∷_ 101 (List._∷_ 116 (List._∷_ 58 (List._∷_ 58 (List._∷_ 69 (List._∷_ 110 (List._∷_ 116 (List._∷_ 114 (List._∷_ 121 (List._∷_ 78 (List._∷_ 117 (List._∷_ 109 (List._∷_ 98 (List._∷_ 101 (List._∷_ 114 List.[])))))))))))))))))) (Syntax.tcons (Syntax.tyInt Syntax.w8) Syntax.tnil)) Syntax.tnil) (Syntax.ttcons Syntax.tnil Syntax.ttnil))))))) Syntax.tnil) (Syntax.ttcons Syntax.tnil (Syntax.ttcons Syntax.tnil (Syntax.ttcons (Syntax.tcons (Syntax.tyInt Syntax.w8) Syntax.tnil) Syntax.ttnil)))))) (List._∷_ (1, Rows'.sslice (Referent.rtF (Referent.fInt Syntax.w8)) (Syntax.tyRef (Syntax.named 0) Syntax.imm (Syntax.tyInt Syntax.w8)) 0) (List._∷_ (2, Rows'.sslice (Referent.rtF Referent.fBool) (Syntax.tyRef (Syntax.named 1) Syntax.imm Syntax.tyBool) 1) (List._∷_ (3, Rows'.sslice (Referent.rtF (Referent.fInt Syntax.w64)) (Syntax.tyRef (Syntax.named 2) Syntax.imm (Syntax.tyInt Syntax.w64)) 2) (List._∷_ (4, Rows'.sslice (Referent.rtF (Referent.fInt Syntax.w64)) (Syntax.tyRef (Syntax.named 3) Syntax.imm (Syntax.tyInt Syntax.w64)) 3) (List._∷_ (5, Rows'.sslice (Struct″.row StepT.the-type) (Syntax.tyRef (Syntax.named 4) Syntax.imm (Memory″.pointee ((Struct″.row StepT.the-type) .written))) 4) (List._∷_ (6, Rows'.sc-here (Row.sInt Syntax.w64)) (List._∷_ (7, Rows'.any-gone (Syntax.tyArray Syntax.tyBool 256)) (List._∷_ (8, Rows'.any-gone (Syntax.tyArray Syntax.tyBool 256)) (List._∷_ (9, Rows'.sc-here (Row.sInt Syntax.w64)) (List._∷_ (10, Rows'.sc-here (Row.sInt Syntax.w64)) (List._∷_ (11, Rows'.any-gone Syntax.tyBool) (List._∷_ (12, Rows'.any-gone (Syntax.tyInt Syntax.w8)) (List._∷_ (13, Rows'.any-gone Syntax.tyUnit) (List._∷_ (14, Rows'.any-gone (Syntax.tyRef Syntax.erased Syntax.mut (Syntax.tyArray Syntax.tyBool 256))) (List._∷_ (15, Rows'.any-gone (Syntax.tyStruct (List._∷_ 38 (List._∷_ 91 (List._∷_ 93 List.[]))) (Syntax.tcons (Syntax.tyRef Syntax.erased Syntax.mut Syntax.tyBool) (Syntax.tcons (Syntax.tyInt Syntax.w64) Syntax.tnil)))) List.[])))))))))))))))
+t4 = List._∷_ (0, Rows'.any-gone (Syntax.tyEnum (List._∷_ 115 (List._∷_ 117 (List._∷_ 114 (List._∷_ 118 (List._∷_ 101 (List._∷_ 121 (List._∷_ 111 (List._∷_ 114 (List._∷_ 58 (List._∷_ 58 (List._∷_ 83 (List._∷_ 117 (List._∷_ 114 (List._∷_ 118 (List._∷_ 101 (List._∷_ 121 List.[])))))))))))))))) (Syntax.ttcons (Syntax.tcons (Syntax.tyEnum (List._∷_ 114 (List._∷_ 101 (List._∷_ 102 (List._∷_ 117 (List._∷_ 115 (List._∷_ 97 (List._∷_ 108 (List._∷_ 58 (List._∷_ 58 (List._∷_ 82 (List._∷_ 101 (List._∷_ 102 (List._∷_ 117 (List._∷_ 115 (List._∷_ 97 (List._∷_ 108 List.[])))))))))))))))) (Syntax.ttcons Syntax.tnil (Syntax.ttcons Syntax.tnil (Syntax.ttcons Syntax.tnil (Syntax.ttcons (Syntax.tcons (Syntax.tyStruct (List._∷_ 115 (List._∷_ 104 (List._∷_ 101 (List._∷_ 101 (List._∷_ 116 (List._∷_ 58 (List._∷_ 58 (List._∷_ 84 (List._∷_ 101 (List._∷_ 114 (List._∷_ 109 (List._∷_ 78 (List._∷_ 117 (List._∷_ 109 (List._∷_ 98 (List._∷_ 101 (List._∷_ 114 List.[]))))))))))))))))) (Syntax.tcons (Syntax.tyInt Syntax.w8) Syntax.tnil)) Syntax.tnil) (Syntax.ttcons (Syntax.tcons (Syntax.tyStruct (List._∷_ 115 (List._∷_ 104 (List._∷_ 101 (List._∷_ 101 (List._∷_ 116 (List._∷_ 58 (List._∷_ 58 (List._∷_ 69 (List._∷_ 110 (List._∷_ 116 (List._∷_ 114 (List._∷_ 121 (List._∷_ 78 (List._∷_ 117 (List._∷_ 109 (List._∷_ 98 (List._∷_ 101 (List._∷_ 114 List.[])))))))))))))))))) (Syntax.tcons (Syntax.tyInt Syntax.w8) Syntax.tnil)) Syntax.tnil) (Syntax.ttcons Syntax.tnil Syntax.ttnil))))))) Syntax.tnil) (Syntax.ttcons Syntax.tnil (Syntax.ttcons Syntax.tnil (Syntax.ttcons (Syntax.tcons (Syntax.tyInt Syntax.w8) Syntax.tnil) Syntax.ttnil)))))) (List._∷_ (1, Rows'.sslice (Referent.rtF (Referent.fInt Syntax.w8)) (Syntax.tyRef (Syntax.named 0) Syntax.imm (Syntax.tyInt Syntax.w8)) 0) (List._∷_ (2, Rows'.sslice (Referent.rtF Referent.fBool) (Syntax.tyRef (Syntax.named 1) Syntax.imm Syntax.tyBool) 1) (List._∷_ (3, Rows'.sslice (Referent.rtF (Referent.fInt Syntax.w64)) (Syntax.tyRef (Syntax.named 2) Syntax.imm (Syntax.tyInt Syntax.w64)) 2) (List._∷_ (4, Rows'.sslice (Referent.rtF (Referent.fInt Syntax.w64)) (Syntax.tyRef (Syntax.named 3) Syntax.imm (Syntax.tyInt Syntax.w64)) 3) (List._∷_ (5, Rows'.sslice (Struct″.row StepT.the-type) (Syntax.tyRef (Syntax.named 4) Syntax.imm (Memory″.pointee ((Struct″.row StepT.the-type) .written))) 4) (List._∷_ (6, Rows'.sc-here (Row.sInt Syntax.w64)) (List._∷_ (7, Rows'.any-gone (Syntax.tyArray Syntax.tyBool 256)) (List._∷_ (8, Rows'.any-gone (Syntax.tyArray (Syntax.tyInt Syntax.w64) 2)) (List._∷_ (9, Rows'.sc-here (Row.sInt Syntax.w64)) (List._∷_ (10, Rows'.sc-here (Row.sInt Syntax.w64)) (List._∷_ (11, Rows'.any-gone Syntax.tyBool) (List._∷_ (12, Rows'.any-gone (Syntax.tyInt Syntax.w8)) (List._∷_ (13, Rows'.any-gone Syntax.tyUnit) (List._∷_ (14, Rows'.any-gone (Syntax.tyRef Syntax.erased Syntax.mut (Syntax.tyArray Syntax.tyBool 256))) (List._∷_ (15, Rows'.any-gone (Syntax.tyStruct (List._∷_ 38 (List._∷_ 91 (List._∷_ 93 List.[]))) (Syntax.tcons (Syntax.tyRef Syntax.erased Syntax.mut Syntax.tyBool) (Syntax.tcons (Syntax.tyInt Syntax.w64) Syntax.tnil)))) List.[])))))))))))))))
 
 abbrev pub t5 : List.List Row.Entry
-t5 = List._∷_ (0, Rows'.any-gone (Syntax.tyEnum (List._∷_ 115 (List._∷_ 117 (List._∷_ 114 (List._∷_ 118 (List._∷_ 101 (List._∷_ 121 (List._∷_ 111 (List._∷_ 114 (List._∷_ 58 (List._∷_ 58 (List._∷_ 83 (List._∷_ 117 (List._∷_ 114 (List._∷_ 118 (List._∷_ 101 (List._∷_ 121 List.[])))))))))))))))) (Syntax.ttcons (Syntax.tcons (Syntax.tyEnum (List._∷_ 114 (List._∷_ 101 (List._∷_ 102 (List._∷_ 117 (List._∷_ 115 (List._∷_ 97 (List._∷_ 108 (List._∷_ 58 (List._∷_ 58 (List._∷_ 82 (List._∷_ 101 (List._∷_ 102 (List._∷_ 117 (List._∷_ 115 (List._∷_ 97 (List._∷_ 108 List.[])))))))))))))))) (Syntax.ttcons Syntax.tnil (Syntax.ttcons Syntax.tnil (Syntax.ttcons Syntax.tnil (Syntax.ttcons (Syntax.tcons (Syntax.tyStruct (List._∷_ 115 (List._∷_ 104 (List._∷_ 101 (List._∷_ 101 (List._∷_ 116 (List._∷_ 58 (List._∷_ 58 (List._∷_ 84 (List._∷_ 101 (List._∷_ 114 (List._∷_ 109 (List._∷_ 78 (List._∷_ 117 (List._∷_ 109 (List._∷_ 98 (List._∷_ 101 (List._∷_ 114 List.[]))))))))))))))))) (Syntax.tcons (Syntax.tyInt Syntax.w8) Syntax.tnil)) Syntax.tnil) (Syntax.ttcons (Syntax.tcons (Syntax.tyStruct (List._∷_ 115 (List._∷_ 104 (List._∷_ 101 (List._∷_ 101 (List._∷_ 116 (List._∷_ 58 (List._∷_ 58 (List._∷_ 69 (List._∷_ 110 (List._∷_ 116 (List._∷_ 114 (List._∷_ 121 (List._∷_ 78 (List._∷_ 117 (List._∷_ 109 (List._∷_ 98 (List._∷_ 101 (List._∷_ 114 List.[])))))))))))))))))) (Syntax.tcons (Syntax.tyInt Syntax.w8) Syntax.tnil)) Syntax.tnil) (Syntax.ttcons Syntax.tnil Syntax.ttnil))))))) Syntax.tnil) (Syntax.ttcons Syntax.tnil (Syntax.ttcons Syntax.tnil (Syntax.ttcons (Syntax.tcons (Syntax.tyInt Syntax.w8) Syntax.tnil) Syntax.ttnil)))))) (List._∷_ (1, Rows'.sslice (Referent.rtF (Referent.fInt Syntax.w8)) (Syntax.tyRef (Syntax.named 0) Syntax.imm (Syntax.tyInt Syntax.w8)) 0) (List._∷_ (2, Rows'.sslice (Referent.rtF Referent.fBool) (Syntax.tyRef (Syntax.named 1) Syntax.imm Syntax.tyBool) 1) (List._∷_ (3, Rows'.sslice (Referent.rtF (Referent.fInt Syntax.w64)) (Syntax.tyRef (Syntax.named 2) Syntax.imm (Syntax.tyInt Syntax.w64)) 2) (List._∷_ (4, Rows'.sslice (Referent.rtF (Referent.fInt Syntax.w64)) (Syntax.tyRef (Syntax.named 3) Syntax.imm (Syntax.tyInt Syntax.w64)) 3) (List._∷_ (5, Rows'.sslice (Struct″.row StepT.the-type) (Syntax.tyRef (Syntax.named 4) Syntax.imm (Memory″.pointee ((Struct″.row StepT.the-type) .written))) 4) (List._∷_ (6, Rows'.sc-here (Row.sInt Syntax.w64)) (List._∷_ (7, Rows'.any-gone (Syntax.tyArray Syntax.tyBool 256)) (List._∷_ (8, Rows'.any-gone (Syntax.tyArray Syntax.tyBool 256)) (List._∷_ (9, Rows'.sc-here (Row.sInt Syntax.w64)) (List._∷_ (10, Rows'.sc-here (Row.sInt Syntax.w64)) (List._∷_ (11, Rows'.sc-here Row.sBool) (List._∷_ (12, Rows'.any-gone (Syntax.tyInt Syntax.w8)) (List._∷_ (13, Rows'.any-gone Syntax.tyUnit) (List._∷_ (14, Rows'.any-gone (Syntax.tyRef Syntax.erased Syntax.mut (Syntax.tyArray Syntax.tyBool 256))) (List._∷_ (15, Rows'.any-gone (Syntax.tyStruct (List._∷_ 38 (List._∷_ 91 (List._∷_ 93 List.[]))) (Syntax.tcons (Syntax.tyRef Syntax.erased Syntax.mut Syntax.tyBool) (Syntax.tcons (Syntax.tyInt Syntax.w64) Syntax.tnil)))) List.[])))))))))))))))
+t5 = List._∷_ (0, Rows'.any-gone (Syntax.tyEnum (List._∷_ 115 (List._∷_ 117 (List._∷_ 114 (List._∷_ 118 (List._∷_ 101 (List._∷_ 121 (List._∷_ 111 (List._∷_ 114 (List._∷_ 58 (List._∷_ 58 (List._∷_ 83 (List._∷_ 117 (List._∷_ 114 (List._∷_ 118 (List._∷_ 101 (List._∷_ 121 List.[])))))))))))))))) (Syntax.ttcons (Syntax.tcons (Syntax.tyEnum (List._∷_ 114 (List._∷_ 101 (List._∷_ 102 (List._∷_ 117 (List._∷_ 115 (List._∷_ 97 (List._∷_ 108 (List._∷_ 58 (List._∷_ 58 (List._∷_ 82 (List._∷_ 101 (List._∷_ 102 (List._∷_ 117 (List._∷_ 115 (List._∷_ 97 (List._∷_ 108 List.[])))))))))))))))) (Syntax.ttcons Syntax.tnil (Syntax.ttcons Syntax.tnil (Syntax.ttcons Syntax.tnil (Syntax.ttcons (Syntax.tcons (Syntax.tyStruct (List._∷_ 115 (List._∷_ 104 (List._∷_ 101 (List._∷_ 101 (List._∷_ 116 (List._∷_ 58 (List._∷_ 58 (List._∷_ 84 (List._∷_ 101 (List._∷_ 114 (List._∷_ 109 (List._∷_ 78 (List._∷_ 117 (List._∷_ 109 (List._∷_ 98 (List._∷_ 101 (List._∷_ 114 List.[]))))))))))))))))) (Syntax.tcons (Syntax.tyInt Syntax.w8) Syntax.tnil)) Syntax.tnil) (Syntax.ttcons (Syntax.tcons (Syntax.tyStruct (List._∷_ 115 (List._∷_ 104 (List._∷_ 101 (List._∷_ 101 (List._∷_ 116 (List._∷_ 58 (List._∷_ 58 (List._∷_ 69 (List._∷_ 110 (List._∷_ 116 (List._∷_ 114 (List._∷_ 121 (List._∷_ 78 (List._∷_ 117 (List._∷_ 109 (List._∷_ 98 (List._∷_ 101 (List._∷_ 114 List.[])))))))))))))))))) (Syntax.tcons (Syntax.tyInt Syntax.w8) Syntax.tnil)) Syntax.tnil) (Syntax.ttcons Syntax.tnil Syntax.ttnil))))))) Syntax.tnil) (Syntax.ttcons Syntax.tnil (Syntax.ttcons Syntax.tnil (Syntax.ttcons (Syntax.tcons (Syntax.tyInt Syntax.w8) Syntax.tnil) Syntax.ttnil)))))) (List._∷_ (1, Rows'.sslice (Referent.rtF (Referent.fInt Syntax.w8)) (Syntax.tyRef (Syntax.named 0) Syntax.imm (Syntax.tyInt Syntax.w8)) 0) (List._∷_ (2, Rows'.sslice (Referent.rtF Referent.fBool) (Syntax.tyRef (Syntax.named 1) Syntax.imm Syntax.tyBool) 1) (List._∷_ (3, Rows'.sslice (Referent.rtF (Referent.fInt Syntax.w64)) (Syntax.tyRef (Syntax.named 2) Syntax.imm (Syntax.tyInt Syntax.w64)) 2) (List._∷_ (4, Rows'.sslice (Referent.rtF (Referent.fInt Syntax.w64)) (Syntax.tyRef (Syntax.named 3) Syntax.imm (Syntax.tyInt Syntax.w64)) 3) (List._∷_ (5, Rows'.sslice (Struct″.row StepT.the-type) (Syntax.tyRef (Syntax.named 4) Syntax.imm (Memory″.pointee ((Struct″.row StepT.the-type) .written))) 4) (List._∷_ (6, Rows'.sc-here (Row.sInt Syntax.w64)) (List._∷_ (7, Rows'.any-gone (Syntax.tyArray Syntax.tyBool 256)) (List._∷_ (8, Rows'.any-gone (Syntax.tyArray (Syntax.tyInt Syntax.w64) 2)) (List._∷_ (9, Rows'.sc-here (Row.sInt Syntax.w64)) (List._∷_ (10, Rows'.sc-here (Row.sInt Syntax.w64)) (List._∷_ (11, Rows'.sc-here Row.sBool) (List._∷_ (12, Rows'.any-gone (Syntax.tyInt Syntax.w8)) (List._∷_ (13, Rows'.any-gone Syntax.tyUnit) (List._∷_ (14, Rows'.any-gone (Syntax.tyRef Syntax.erased Syntax.mut (Syntax.tyArray Syntax.tyBool 256))) (List._∷_ (15, Rows'.any-gone (Syntax.tyStruct (List._∷_ 38 (List._∷_ 91 (List._∷_ 93 List.[]))) (Syntax.tcons (Syntax.tyRef Syntax.erased Syntax.mut Syntax.tyBool) (Syntax.tcons (Syntax.tyInt Syntax.w64) Syntax.tnil)))) List.[])))))))))))))))
 
 abbrev pub t6 : List.List Row.Entry
-t6 = List._∷_ (0, Rows'.any-gone (Syntax.tyEnum (List._∷_ 115 (List._∷_ 117 (List._∷_ 114 (List._∷_ 118 (List._∷_ 101 (List._∷_ 121 (List._∷_ 111 (List._∷_ 114 (List._∷_ 58 (List._∷_ 58 (List._∷_ 83 (List._∷_ 117 (List._∷_ 114 (List._∷_ 118 (List._∷_ 101 (List._∷_ 121 List.[])))))))))))))))) (Syntax.ttcons (Syntax.tcons (Syntax.tyEnum (List._∷_ 114 (List._∷_ 101 (List._∷_ 102 (List._∷_ 117 (List._∷_ 115 (List._∷_ 97 (List._∷_ 108 (List._∷_ 58 (List._∷_ 58 (List._∷_ 82 (List._∷_ 101 (List._∷_ 102 (List._∷_ 117 (List._∷_ 115 (List._∷_ 97 (List._∷_ 108 List.[])))))))))))))))) (Syntax.ttcons Syntax.tnil (Syntax.ttcons Syntax.tnil (Syntax.ttcons Syntax.tnil (Syntax.ttcons (Syntax.tcons (Syntax.tyStruct (List._∷_ 115 (List._∷_ 104 (List._∷_ 101 (List._∷_ 101 (List._∷_ 116 (List._∷_ 58 (List._∷_ 58 (List._∷_ 84 (List._∷_ 101 (List._∷_ 114 (List._∷_ 109 (List._∷_ 78 (List._∷_ 117 (List._∷_ 109 (List._∷_ 98 (List._∷_ 101 (List._∷_ 114 List.[]))))))))))))))))) (Syntax.tcons (Syntax.tyInt Syntax.w8) Syntax.tnil)) Syntax.tnil) (Syntax.ttcons (Syntax.tcons (Syntax.tyStruct (List._∷_ 115 (List._∷_ 104 (List._∷_ 101 (List._∷_ 101 (List._∷_ 116 (List._∷_ 58 (List._∷_ 58 (List._∷_ 69 (List._∷_ 110 (List._∷_ 116 (List._∷_ 114 (List._∷_ 121 (List._∷_ 78 (List._∷_ 117 (List._∷_ 109 (List._∷_ 98 (List._∷_ 101 (List._∷_ 114 List.[])))))))))))))))))) (Syntax.tcons (Syntax.tyInt Syntax.w8) Syntax.tnil)) Syntax.tnil) (Syntax.ttcons Syntax.tnil Syntax.ttnil))))))) Syntax.tnil) (Syntax.ttcons Syntax.tnil (Syntax.ttcons Syntax.tnil (Syntax.ttcons (Syntax.tcons (Syntax.tyInt Syntax.w8) Syntax.tnil) Syntax.ttnil)))))) (List._∷_ (1, Rows'.sslice (Referent.rtF (Referent.fInt Syntax.w8)) (Syntax.tyRef (Syntax.named 0) Syntax.imm (Syntax.tyInt Syntax.w8)) 0) (List._∷_ (2, Rows'.sslice (Referent.rtF Referent.fBool) (Syntax.tyRef (Syntax.named 1) Syntax.imm Syntax.tyBool) 1) (List._∷_ (3, Rows'.sslice (Referent.rtF (Referent.fInt Syntax.w64)) (Syntax.tyRef (Syntax.named 2) Syntax.imm (Syntax.tyInt Syntax.w64)) 2) (List._∷_ (4, Rows'.sslice (Referent.rtF (Referent.fInt Syntax.w64)) (Syntax.tyRef (Syntax.named 3) Syntax.imm (Syntax.tyInt Syntax.w64)) 3) (List._∷_ (5, Rows'.sslice (Struct″.row StepT.the-type) (Syntax.tyRef (Syntax.named 4) Syntax.imm (Memory″.pointee ((Struct″.row StepT.the-type) .written))) 4) (List._∷_ (6, Rows'.sc-here (Row.sInt Syntax.w64)) (List._∷_ (7, Rows'.any-gone (Syntax.tyArray Syntax.tyBool 256)) (List._∷_ (8, Rows'.any-gone (Syntax.tyArray Syntax.tyBool 256)) (List._∷_ (9, Rows'.any-gone (Syntax.tyInt Syntax.w64)) (List._∷_ (10, Rows'.sc-here (Row.sInt Syntax.w64)) (List._∷_ (11, Rows'.sc-here Row.sBool) (List._∷_ (12, Rows'.any-gone (Syntax.tyInt Syntax.w8)) (List._∷_ (13, Rows'.any-gone Syntax.tyUnit) (List._∷_ (14, Rows'.any-gone (Syntax.tyRef Syntax.erased Syntax.mut (Syntax.tyArray Syntax.tyBool 256))) (List._∷_ (15, Rows'.any-gone (Syntax.tyStruct (List._∷_ 38 (List._∷_ 91 (List._∷_ 93 List.[]))) (Syntax.tcons (Syntax.tyRef Syntax.erased Syntax.mut Syntax.tyBool) (Syntax.tcons (Syntax.tyInt Syntax.w64) Syntax.tnil)))) List.[])))))))))))))))
+t6 = List._∷_ (0, Rows'.any-gone (Syntax.tyEnum (List._∷_ 115 (List._∷_ 117 (List._∷_ 114 (List._∷_ 118 (List._∷_ 101 (List._∷_ 121 (List._∷_ 111 (List._∷_ 114 (List._∷_ 58 (List._∷_ 58 (List._∷_ 83 (List._∷_ 117 (List._∷_ 114 (List._∷_ 118 (List._∷_ 101 (List._∷_ 121 List.[])))))))))))))))) (Syntax.ttcons (Syntax.tcons (Syntax.tyEnum (List._∷_ 114 (List._∷_ 101 (List._∷_ 102 (List._∷_ 117 (List._∷_ 115 (List._∷_ 97 (List._∷_ 108 (List._∷_ 58 (List._∷_ 58 (List._∷_ 82 (List._∷_ 101 (List._∷_ 102 (List._∷_ 117 (List._∷_ 115 (List._∷_ 97 (List._∷_ 108 List.[])))))))))))))))) (Syntax.ttcons Syntax.tnil (Syntax.ttcons Syntax.tnil (Syntax.ttcons Syntax.tnil (Syntax.ttcons (Syntax.tcons (Syntax.tyStruct (List._∷_ 115 (List._∷_ 104 (List._∷_ 101 (List._∷_ 101 (List._∷_ 116 (List._∷_ 58 (List._∷_ 58 (List._∷_ 84 (List._∷_ 101 (List._∷_ 114 (List._∷_ 109 (List._∷_ 78 (List._∷_ 117 (List._∷_ 109 (List._∷_ 98 (List._∷_ 101 (List._∷_ 114 List.[]))))))))))))))))) (Syntax.tcons (Syntax.tyInt Syntax.w8) Syntax.tnil)) Syntax.tnil) (Syntax.ttcons (Syntax.tcons (Syntax.tyStruct (List._∷_ 115 (List._∷_ 104 (List._∷_ 101 (List._∷_ 101 (List._∷_ 116 (List._∷_ 58 (List._∷_ 58 (List._∷_ 69 (List._∷_ 110 (List._∷_ 116 (List._∷_ 114 (List._∷_ 121 (List._∷_ 78 (List._∷_ 117 (List._∷_ 109 (List._∷_ 98 (List._∷_ 101 (List._∷_ 114 List.[])))))))))))))))))) (Syntax.tcons (Syntax.tyInt Syntax.w8) Syntax.tnil)) Syntax.tnil) (Syntax.ttcons Syntax.tnil Syntax.ttnil))))))) Syntax.tnil) (Syntax.ttcons Syntax.tnil (Syntax.ttcons Syntax.tnil (Syntax.ttcons (Syntax.tcons (Syntax.tyInt Syntax.w8) Syntax.tnil) Syntax.ttnil)))))) (List._∷_ (1, Rows'.sslice (Referent.rtF (Referent.fInt Syntax.w8)) (Syntax.tyRef (Syntax.named 0) Syntax.imm (Syntax.tyInt Syntax.w8)) 0) (List._∷_ (2, Rows'.sslice (Referent.rtF Referent.fBool) (Syntax.tyRef (Syntax.named 1) Syntax.imm Syntax.tyBool) 1) (List._∷_ (3, Rows'.sslice (Referent.rtF (Referent.fInt Syntax.w64)) (Syntax.tyRef (Syntax.named 2) Syntax.imm (Syntax.tyInt Syntax.w64)) 2) (List._∷_ (4, Rows'.sslice (Referent.rtF (Referent.fInt Syntax.w64)) (Syntax.tyRef (Syntax.named 3) Syntax.imm (Syntax.tyInt Syntax.w64)) 3) (List._∷_ (5, Rows'.sslice (Struct″.row StepT.the-type) (Syntax.tyRef (Syntax.named 4) Syntax.imm (Memory″.pointee ((Struct″.row StepT.the-type) .written))) 4) (List._∷_ (6, Rows'.sc-here (Row.sInt Syntax.w64)) (List._∷_ (7, Rows'.any-gone (Syntax.tyArray Syntax.tyBool 256)) (List._∷_ (8, Rows'.any-gone (Syntax.tyArray (Syntax.tyInt Syntax.w64) 2)) (List._∷_ (9, Rows'.any-gone (Syntax.tyInt Syntax.w64)) (List._∷_ (10, Rows'.sc-here (Row.sInt Syntax.w64)) (List._∷_ (11, Rows'.sc-here Row.sBool) (List._∷_ (12, Rows'.any-gone (Syntax.tyInt Syntax.w8)) (List._∷_ (13, Rows'.any-gone Syntax.tyUnit) (List._∷_ (14, Rows'.any-gone (Syntax.tyRef Syntax.erased Syntax.mut (Syntax.tyArray Syntax.tyBool 256))) (List._∷_ (15, Rows'.any-gone (Syntax.tyStruct (List._∷_ 38 (List._∷_ 91 (List._∷_ 93 List.[]))) (Syntax.tcons (Syntax.tyRef Syntax.erased Syntax.mut Syntax.tyBool) (Syntax.tcons (Syntax.tyInt Syntax.w64) Syntax.tnil)))) List.[])))))))))))))))
 
 abbrev pub t7 : List.List Row.Entry
-t7 = List._∷_ (0, Rows'.any-gone (Syntax.tyEnum (List._∷_ 115 (List._∷_ 117 (List._∷_ 114 (List._∷_ 118 (List._∷_ 101 (List._∷_ 121 (List._∷_ 111 (List._∷_ 114 (List._∷_ 58 (List._∷_ 58 (List._∷_ 83 (List._∷_ 117 (List._∷_ 114 (List._∷_ 118 (List._∷_ 101 (List._∷_ 121 List.[])))))))))))))))) (Syntax.ttcons (Syntax.tcons (Syntax.tyEnum (List._∷_ 114 (List._∷_ 101 (List._∷_ 102 (List._∷_ 117 (List._∷_ 115 (List._∷_ 97 (List._∷_ 108 (List._∷_ 58 (List._∷_ 58 (List._∷_ 82 (List._∷_ 101 (List._∷_ 102 (List._∷_ 117 (List._∷_ 115 (List._∷_ 97 (List._∷_ 108 List.[])))))))))))))))) (Syntax.ttcons Syntax.tnil (Syntax.ttcons Syntax.tnil (Syntax.ttcons Syntax.tnil (Syntax.ttcons (Syntax.tcons (Syntax.tyStruct (List._∷_ 115 (List._∷_ 104 (List._∷_ 101 (List._∷_ 101 (List._∷_ 116 (List._∷_ 58 (List._∷_ 58 (List._∷_ 84 (List._∷_ 101 (List._∷_ 114 (List._∷_ 109 (List._∷_ 78 (List._∷_ 117 (List._∷_ 109 (List._∷_ 98 (List._∷_ 101 (List._∷_ 114 List.[]))))))))))))))))) (Syntax.tcons (Syntax.tyInt Syntax.w8) Syntax.tnil)) Syntax.tnil) (Syntax.ttcons (Syntax.tcons (Syntax.tyStruct (List._∷_ 115 (List._∷_ 104 (List._∷_ 101 (List._∷_ 101 (List._∷_ 116 (List._∷_ 58 (List._∷_ 58 (List._∷_ 69 (List._∷_ 110 (List._∷_ 116 (List._∷_ 114 (List._∷_ 121 (List._∷_ 78 (List._∷_ 117 (List._∷_ 109 (List._∷_ 98 (List._∷_ 101 (List._∷_ 114 List.[])))))))))))))))))) (Syntax.tcons (Syntax.tyInt Syntax.w8) Syntax.tnil)) Syntax.tnil) (Syntax.ttcons Syntax.tnil Syntax.ttnil))))))) Syntax.tnil) (Syntax.ttcons Syntax.tnil (Syntax.ttcons Syntax.tnil (Syntax.ttcons (Syntax.tcons (Syntax.tyInt Syntax.w8) Syntax.tnil) Syntax.ttnil)))))) (List._∷_ (1, Rows'.sslice (Referent.rtF (Referent.fInt Syntax.w8)) (Syntax.tyRef (Syntax.named 0) Syntax.imm (Syntax.tyInt Syntax.w8)) 0) (List._∷_ (2, Rows'.sslice (Referent.rtF Referent.fBool) (Syntax.tyRef (Syntax.named 1) Syntax.imm Syntax.tyBool) 1) (List._∷_ (3, Rows'.sslice (Referent.rtF (Referent.fInt Syntax.w64)) (Syntax.tyRef (Syntax.named 2) Syntax.imm (Syntax.tyInt Syntax.w64)) 2) (List._∷_ (4, Rows'.sslice (Referent.rtF (Referent.fInt Syntax.w64)) (Syntax.tyRef (Syntax.named 3) Syntax.imm (Syntax.tyInt Syntax.w64)) 3) (List._∷_ (5, Rows'.sslice (Struct″.row StepT.the-type) (Syntax.tyRef (Syntax.named 4) Syntax.imm (Memory″.pointee ((Struct″.row StepT.the-type) .written))) 4) (List._∷_ (6, Rows'.sc-here (Row.sInt Syntax.w64)) (List._∷_ (7, Rows'.any-gone (Syntax.tyArray Syntax.tyBool 256)) (List._∷_ (8, Rows'.any-gone (Syntax.tyArray Syntax.tyBool 256)) (List._∷_ (9, Rows'.any-gone (Syntax.tyInt Syntax.w64)) (List._∷_ (10, Rows'.any-gone (Syntax.tyInt Syntax.w64)) (List._∷_ (11, Rows'.sc-here Row.sBool) (List._∷_ (12, Rows'.any-gone (Syntax.tyInt Syntax.w8)) (List._∷_ (13, Rows'.any-gone Syntax.tyUnit) (List._∷_ (14, Rows'.any-gone (Syntax.tyRef Syntax.erased Syntax.mut (Syntax.tyArray Syntax.tyBool 256))) (List._∷_ (15, Rows'.any-gone (Syntax.tyStruct (List._∷_ 38 (List._∷_ 91 (List._∷_ 93 List.[]))) (Syntax.tcons (Syntax.tyRef Syntax.erased Syntax.mut Syntax.tyBool) (Syntax.tcons (Syntax.tyInt Syntax.w64) Syntax.tnil)))) List.[])))))))))))))))
+t7 = List._∷_ (0, Rows'.any-gone (Syntax.tyEnum (List._∷_ 115 (List._∷_ 117 (List._∷_ 114 (List._∷_ 118 (List._∷_ 101 (List._∷_ 121 (List._∷_ 111 (List._∷_ 114 (List._∷_ 58 (List._∷_ 58 (List._∷_ 83 (List._∷_ 117 (List._∷_ 114 (List._∷_ 118 (List._∷_ 101 (List._∷_ 121 List.[])))))))))))))))) (Syntax.ttcons (Syntax.tcons (Syntax.tyEnum (List._∷_ 114 (List._∷_ 101 (List._∷_ 102 (List._∷_ 117 (List._∷_ 115 (List._∷_ 97 (List._∷_ 108 (List._∷_ 58 (List._∷_ 58 (List._∷_ 82 (List._∷_ 101 (List._∷_ 102 (List._∷_ 117 (List._∷_ 115 (List._∷_ 97 (List._∷_ 108 List.[])))))))))))))))) (Syntax.ttcons Syntax.tnil (Syntax.ttcons Syntax.tnil (Syntax.ttcons Syntax.tnil (Syntax.ttcons (Syntax.tcons (Syntax.tyStruct (List._∷_ 115 (List._∷_ 104 (List._∷_ 101 (List._∷_ 101 (List._∷_ 116 (List._∷_ 58 (List._∷_ 58 (List._∷_ 84 (List._∷_ 101 (List._∷_ 114 (List._∷_ 109 (List._∷_ 78 (List._∷_ 117 (List._∷_ 109 (List._∷_ 98 (List._∷_ 101 (List._∷_ 114 List.[]))))))))))))))))) (Syntax.tcons (Syntax.tyInt Syntax.w8) Syntax.tnil)) Syntax.tnil) (Syntax.ttcons (Syntax.tcons (Syntax.tyStruct (List._∷_ 115 (List._∷_ 104 (List._∷_ 101 (List._∷_ 101 (List._∷_ 116 (List._∷_ 58 (List._∷_ 58 (List._∷_ 69 (List._∷_ 110 (List._∷_ 116 (List._∷_ 114 (List._∷_ 121 (List._∷_ 78 (List._∷_ 117 (List._∷_ 109 (List._∷_ 98 (List._∷_ 101 (List._∷_ 114 List.[])))))))))))))))))) (Syntax.tcons (Syntax.tyInt Syntax.w8) Syntax.tnil)) Syntax.tnil) (Syntax.ttcons Syntax.tnil Syntax.ttnil))))))) Syntax.tnil) (Syntax.ttcons Syntax.tnil (Syntax.ttcons Syntax.tnil (Syntax.ttcons (Syntax.tcons (Syntax.tyInt Syntax.w8) Syntax.tnil) Syntax.ttnil)))))) (List._∷_ (1, Rows'.sslice (Referent.rtF (Referent.fInt Syntax.w8)) (Syntax.tyRef (Syntax.named 0) Syntax.imm (Syntax.tyInt Syntax.w8)) 0) (List._∷_ (2, Rows'.sslice (Referent.rtF Referent.fBool) (Syntax.tyRef (Syntax.named 1) Syntax.imm Syntax.tyBool) 1) (List._∷_ (3, Rows'.sslice (Referent.rtF (Referent.fInt Syntax.w64)) (Syntax.tyRef (Syntax.named 2) Syntax.imm (Syntax.tyInt Syntax.w64)) 2) (List._∷_ (4, Rows'.sslice (Referent.rtF (Referent.fInt Syntax.w64)) (Syntax.tyRef (Syntax.named 3) Syntax.imm (Syntax.tyInt Syntax.w64)) 3) (List._∷_ (5, Rows'.sslice (Struct″.row StepT.the-type) (Syntax.tyRef (Syntax.named 4) Syntax.imm (Memory″.pointee ((Struct″.row StepT.the-type) .written))) 4) (List._∷_ (6, Rows'.sc-here (Row.sInt Syntax.w64)) (List._∷_ (7, Rows'.any-gone (Syntax.tyArray Syntax.tyBool 256)) (List._∷_ (8, Rows'.any-gone (Syntax.tyArray (Syntax.tyInt Syntax.w64) 2)) (List._∷_ (9, Rows'.any-gone (Syntax.tyInt Syntax.w64)) (List._∷_ (10, Rows'.any-gone (Syntax.tyInt Syntax.w64)) (List._∷_ (11, Rows'.sc-here Row.sBool) (List._∷_ (12, Rows'.any-gone (Syntax.tyInt Syntax.w8)) (List._∷_ (13, Rows'.any-gone Syntax.tyUnit) (List._∷_ (14, Rows'.any-gone (Syntax.tyRef Syntax.erased Syntax.mut (Syntax.tyArray Syntax.tyBool 256))) (List._∷_ (15, Rows'.any-gone (Syntax.tyStruct (List._∷_ 38 (List._∷_ 91 (List._∷_ 93 List.[]))) (Syntax.tcons (Syntax.tyRef Syntax.erased Syntax.mut Syntax.tyBool) (Syntax.tcons (Syntax.tyInt Syntax.w64) Syntax.tnil)))) List.[])))))))))))))))
 
 abbrev pub t8 : List.List Row.Entry
-t8 = List._∷_ (0, Rows'.any-gone (Syntax.tyEnum (List._∷_ 115 (List._∷_ 117 (List._∷_ 114 (List._∷_ 118 (List._∷_ 101 (List._∷_ 121 (List._∷_ 111 (List._∷_ 114 (List._∷_ 58 (List._∷_ 58 (List._∷_ 83 (List._∷_ 117 (List._∷_ 114 (List._∷_ 118 (List._∷_ 101 (List._∷_ 121 List.[])))))))))))))))) (Syntax.ttcons (Syntax.tcons (Syntax.tyEnum (List._∷_ 114 (List._∷_ 101 (List._∷_ 102 (List._∷_ 117 (List._∷_ 115 (List._∷_ 97 (List._∷_ 108 (List._∷_ 58 (List._∷_ 58 (List._∷_ 82 (List._∷_ 101 (List._∷_ 102 (List._∷_ 117 (List._∷_ 115 (List._∷_ 97 (List._∷_ 108 List.[])))))))))))))))) (Syntax.ttcons Syntax.tnil (Syntax.ttcons Syntax.tnil (Syntax.ttcons Syntax.tnil (Syntax.ttcons (Syntax.tcons (Syntax.tyStruct (List._∷_ 115 (List._∷_ 104 (List._∷_ 101 (List._∷_ 101 (List._∷_ 116 (List._∷_ 58 (List._∷_ 58 (List._∷_ 84 (List._∷_ 101 (List._∷_ 114 (List._∷_ 109 (List._∷_ 78 (List._∷_ 117 (List._∷_ 109 (List._∷_ 98 (List._∷_ 101 (List._∷_ 114 List.[]))))))))))))))))) (Syntax.tcons (Syntax.tyInt Syntax.w8) Syntax.tnil)) Syntax.tnil) (Syntax.ttcons (Syntax.tcons (Syntax.tyStruct (List._∷_ 115 (List._∷_ 104 (List._∷_ 101 (List._∷_ 101 (List._∷_ 116 (List._∷_ 58 (List._∷_ 58 (List._∷_ 69 (List._∷_ 110 (List._∷_ 116 (List._∷_ 114 (List._∷_ 121 (List._∷_ 78 (List._∷_ 117 (List._∷_ 109 (List._∷_ 98 (List._∷_ 101 (List._∷_ 114 List.[])))))))))))))))))) (Syntax.tcons (Syntax.tyInt Syntax.w8) Syntax.tnil)) Syntax.tnil) (Syntax.ttcons Syntax.tnil Syntax.ttnil))))))) Syntax.tnil) (Syntax.ttcons Syntax.tnil (Syntax.ttcons Syntax.tnil (Syntax.ttcons (Syntax.tcons (Syntax.tyInt Syntax.w8) Syntax.tnil) Syntax.ttnil)))))) (List._∷_ (1, Rows'.sslice (Referent.rtF (Referent.fInt Syntax.w8)) (Syntax.tyRef (Syntax.named 0) Syntax.imm (Syntax.tyInt Syntax.w8)) 0) (List._∷_ (2, Rows'.sslice (Referent.rtF Referent.fBool) (Syntax.tyRef (Syntax.named 1) Syntax.imm Syntax.tyBool) 1) (List._∷_ (3, Rows'.sslice (Referent.rtF (Referent.fInt Syntax.w64)) (Syntax.tyRef (Syntax.named 2) Syntax.imm (Syntax.tyInt Syntax.w64)) 2) (List._∷_ (4, Rows'.sslice (Referent.rtF (Referent.fInt Syntax.w64)) (Syntax.tyRef (Syntax.named 3) Syntax.imm (Syntax.tyInt Syntax.w64)) 3) (List._∷_ (5, Rows'.sslice (Struct″.row StepT.the-type) (Syntax.tyRef (Syntax.named 4) Syntax.imm (Memory″.pointee ((Struct″.row StepT.the-type) .written))) 4) (List._∷_ (6, Rows'.sc-here (Row.sInt Syntax.w64)) (List._∷_ (7, Rows'.any-gone (Syntax.tyArray Syntax.tyBool 256)) (List._∷_ (8, Rows'.any-gone (Syntax.tyArray Syntax.tyBool 256)) (List._∷_ (9, Rows'.any-gone (Syntax.tyInt Syntax.w64)) (List._∷_ (10, Rows'.any-gone (Syntax.tyInt Syntax.w64)) (List._∷_ (11, Rows'.any-gone Syntax.tyBool) (List._∷_ (12, Rows'.sc-here (Row.sInt Syntax.w8)) (List._∷_ (13, Rows'.any-gone Syntax.tyUnit) (List._∷_ (14, Rows'.any-gone (Syntax.tyRef Syntax.erased Syntax.mut (Syntax.tyArray Syntax.tyBool 256))) (List._∷_ (15, Rows'.any-gone (Syntax.tyStruct (List._∷_ 38 (List._∷_ 91 (List._∷_ 93 List.[]))) (Syntax.tcons (Syntax.tyRef Syntax.erased Syntax.mut Syntax.tyBool) (Syntax.tcons (Syntax.tyInt Syntax.w64) Syntax.tnil)))) List.[])))))))))))))))
+t8 = List._∷_ (0, Rows'.any-gone (Syntax.tyEnum (List._∷_ 115 (List._∷_ 117 (List._∷_ 114 (List._∷_ 118 (List._∷_ 101 (List._∷_ 121 (List._∷_ 111 (List._∷_ 114 (List._∷_ 58 (List._∷_ 58 (List._∷_ 83 (List._∷_ 117 (List._∷_ 114 (List._∷_ 118 (List._∷_ 101 (List._∷_ 121 List.[])))))))))))))))) (Syntax.ttcons (Syntax.tcons (Syntax.tyEnum (List._∷_ 114 (List._∷_ 101 (List._∷_ 102 (List._∷_ 117 (List._∷_ 115 (List._∷_ 97 (List._∷_ 108 (List._∷_ 58 (List._∷_ 58 (List._∷_ 82 (List._∷_ 101 (List._∷_ 102 (List._∷_ 117 (List._∷_ 115 (List._∷_ 97 (List._∷_ 108 List.[])))))))))))))))) (Syntax.ttcons Syntax.tnil (Syntax.ttcons Syntax.tnil (Syntax.ttcons Syntax.tnil (Syntax.ttcons (Syntax.tcons (Syntax.tyStruct (List._∷_ 115 (List._∷_ 104 (List._∷_ 101 (List._∷_ 101 (List._∷_ 116 (List._∷_ 58 (List._∷_ 58 (List._∷_ 84 (List._∷_ 101 (List._∷_ 114 (List._∷_ 109 (List._∷_ 78 (List._∷_ 117 (List._∷_ 109 (List._∷_ 98 (List._∷_ 101 (List._∷_ 114 List.[]))))))))))))))))) (Syntax.tcons (Syntax.tyInt Syntax.w8) Syntax.tnil)) Syntax.tnil) (Syntax.ttcons (Syntax.tcons (Syntax.tyStruct (List._∷_ 115 (List._∷_ 104 (List._∷_ 101 (List._∷_ 101 (List._∷_ 116 (List._∷_ 58 (List._∷_ 58 (List._∷_ 69 (List._∷_ 110 (List._∷_ 116 (List._∷_ 114 (List._∷_ 121 (List._∷_ 78 (List._∷_ 117 (List._∷_ 109 (List._∷_ 98 (List._∷_ 101 (List._∷_ 114 List.[])))))))))))))))))) (Syntax.tcons (Syntax.tyInt Syntax.w8) Syntax.tnil)) Syntax.tnil) (Syntax.ttcons Syntax.tnil Syntax.ttnil))))))) Syntax.tnil) (Syntax.ttcons Syntax.tnil (Syntax.ttcons Syntax.tnil (Syntax.ttcons (Syntax.tcons (Syntax.tyInt Syntax.w8) Syntax.tnil) Syntax.ttnil)))))) (List._∷_ (1, Rows'.sslice (Referent.rtF (Referent.fInt Syntax.w8)) (Syntax.tyRef (Syntax.named 0) Syntax.imm (Syntax.tyInt Syntax.w8)) 0) (List._∷_ (2, Rows'.sslice (Referent.rtF Referent.fBool) (Syntax.tyRef (Syntax.named 1) Syntax.imm Syntax.tyBool) 1) (List._∷_ (3, Rows'.sslice (Referent.rtF (Referent.fInt Syntax.w64)) (Syntax.tyRef (Syntax.named 2) Syntax.imm (Syntax.tyInt Syntax.w64)) 2) (List._∷_ (4, Rows'.sslice (Referent.rtF (Referent.fInt Syntax.w64)) (Syntax.tyRef (Syntax.named 3) Syntax.imm (Syntax.tyInt Syntax.w64)) 3) (List._∷_ (5, Rows'.sslice (Struct″.row StepT.the-type) (Syntax.tyRef (Syntax.named 4) Syntax.imm (Memory″.pointee ((Struct″.row StepT.the-type) .written))) 4) (List._∷_ (6, Rows'.sc-here (Row.sInt Syntax.w64)) (List._∷_ (7, Rows'.any-gone (Syntax.tyArray Syntax.tyBool 256)) (List._∷_ (8, Rows'.any-gone (Syntax.tyArray (Syntax.tyInt Syntax.w64) 2)) (List._∷_ (9, Rows'.any-gone (Syntax.tyInt Syntax.w64)) (List._∷_ (10, Rows'.any-gone (Syntax.tyInt Syntax.w64)) (List._∷_ (11, Rows'.any-gone Syntax.tyBool) (List._∷_ (12, Rows'.sc-here (Row.sInt Syntax.w8)) (List._∷_ (13, Rows'.any-gone Syntax.tyUnit) (List._∷_ (14, Rows'.any-gone (Syntax.tyRef Syntax.erased Syntax.mut (Syntax.tyArray Syntax.tyBool 256))) (List._∷_ (15, Rows'.any-gone (Syntax.tyStruct (List._∷_ 38 (List._∷_ 91 (List._∷_ 93 List.[]))) (Syntax.tcons (Syntax.tyRef Syntax.erased Syntax.mut Syntax.tyBool) (Syntax.tcons (Syntax.tyInt Syntax.w64) Syntax.tnil)))) List.[])))))))))))))))
 
 abbrev pub t9 : List.List Row.Entry
-t9 = List._∷_ (0, Rows'.whole (Declared.row Survey.the-type)) (List._∷_ (1, Rows'.sslice (Referent.rtF (Referent.fInt Syntax.w8)) (Syntax.tyRef (Syntax.named 0) Syntax.imm (Syntax.tyInt Syntax.w8)) 0) (List._∷_ (2, Rows'.sslice (Referent.rtF Referent.fBool) (Syntax.tyRef (Syntax.named 1) Syntax.imm Syntax.tyBool) 1) (List._∷_ (3, Rows'.sslice (Referent.rtF (Referent.fInt Syntax.w64)) (Syntax.tyRef (Syntax.named 2) Syntax.imm (Syntax.tyInt Syntax.w64)) 2) (List._∷_ (4, Rows'.sslice (Referent.rtF (Referent.fInt Syntax.w64)) (Syntax.tyRef (Syntax.named 3) Syntax.imm (Syntax.tyInt Syntax.w64)) 3) (List._∷_ (5, Rows'.sslice (Struct″.row StepT.the-type) (Syntax.tyRef (Syntax.named 4) Syntax.imm (Memory″.pointee ((Struct″.row StepT.the-type) .written))) 4) (List._∷_ (6, Rows'.sc-here (Row.sInt Syntax.w64)) (List._∷_ (7, Rows'.any-gone (Syntax.tyArray Syntax.tyBool 256)) (List._∷_ (8, Rows'.any-gone (Syntax.tyArray Syntax.tyBool 256)) (List._∷_ (9, Rows'.any-gone (Syntax.tyInt Syntax.w64)) (List._∷_ (10, Rows'.any-gone (Syntax.tyInt Syntax.w64)) (List._∷_ (11, Rows'.any-gone Syntax.tyBool) (List._∷_ (12, Rows'.sc-here (Row.sInt Syntax.w8)) (List._∷_ (13, Rows'.any-gone Syntax.tyUnit) (List._∷_ (14, Rows'.any-gone (Syntax.tyRef Syntax.erased Syntax.mut (Syntax.tyArray Syntax.tyBool 256))) (List._∷_ (15, Rows'.any-gone (Syntax.tyStruct (List._∷_ 38 (List._∷_ 91 (List._∷_ 93 List.[]))) (Syntax.tcons (Syntax.tyRef Syntax.erased Syntax.mut Syntax.tyBool) (Syntax.tcons (Syntax.tyInt Syntax.w64) Syntax.tnil)))) List.[])))))))))))))))
+t9 = List._∷_ (0, Rows'.whole (Declared.row Survey.the-type)) (List._∷_ (1, Rows'.sslice (Referent.rtF (Referent.fInt Syntax.w8)) (Syntax.tyRef (Syntax.named 0) Syntax.imm (Syntax.tyInt Syntax.w8)) 0) (List._∷_ (2, Rows'.sslice (Referent.rtF Referent.fBool) (Syntax.tyRef (Syntax.named 1) Syntax.imm Syntax.tyBool) 1) (List._∷_ (3, Rows'.sslice (Referent.rtF (Referent.fInt Syntax.w64)) (Syntax.tyRef (Syntax.named 2) Syntax.imm (Syntax.tyInt Syntax.w64)) 2) (List._∷_ (4, Rows'.sslice (Referent.rtF (Referent.fInt Syntax.w64)) (Syntax.tyRef (Syntax.named 3) Syntax.imm (Syntax.tyInt Syntax.w64)) 3) (List._∷_ (5, Rows'.sslice (Struct″.row StepT.the-type) (Syntax.tyRef (Syntax.named 4) Syntax.imm (Memory″.pointee ((Struct″.row StepT.the-type) .written))) 4) (List._∷_ (6, Rows'.sc-here (Row.sInt Syntax.w64)) (List._∷_ (7, Rows'.any-gone (Syntax.tyArray Syntax.tyBool 256)) (List._∷_ (8, Rows'.any-gone (Syntax.tyArray (Syntax.tyInt Syntax.w64) 2)) (List._∷_ (9, Rows'.any-gone (Syntax.tyInt Syntax.w64)) (List._∷_ (10, Rows'.any-gone (Syntax.tyInt Syntax.w64)) (List._∷_ (11, Rows'.any-gone Syntax.tyBool) (List._∷_ (12, Rows'.sc-here (Row.sInt Syntax.w8)) (List._∷_ (13, Rows'.any-gone Syntax.tyUnit) (List._∷_ (14, Rows'.any-gone (Syntax.tyRef Syntax.erased Syntax.mut (Syntax.tyArray Syntax.tyBool 256))) (List._∷_ (15, Rows'.any-gone (Syntax.tyStruct (List._∷_ 38 (List._∷_ 91 (List._∷_ 93 List.[]))) (Syntax.tcons (Syntax.tyRef Syntax.erased Syntax.mut Syntax.tyBool) (Syntax.tcons (Syntax.tyInt Syntax.w64) Syntax.tnil)))) List.[])))))))))))))))
 
 abbrev pub t10 : List.List Row.Entry
-t10 = List._∷_ (0, Rows'.whole (Declared.row Survey.the-type)) (List._∷_ (1, Rows'.sslice (Referent.rtF (Referent.fInt Syntax.w8)) (Syntax.tyRef (Syntax.named 0) Syntax.imm (Syntax.tyInt Syntax.w8)) 0) (List._∷_ (2, Rows'.sslice (Referent.rtF Referent.fBool) (Syntax.tyRef (Syntax.named 1) Syntax.imm Syntax.tyBool) 1) (List._∷_ (3, Rows'.sslice (Referent.rtF (Referent.fInt Syntax.w64)) (Syntax.tyRef (Syntax.named 2) Syntax.imm (Syntax.tyInt Syntax.w64)) 2) (List._∷_ (4, Rows'.sslice (Referent.rtF (Referent.fInt Syntax.w64)) (Syntax.tyRef (Syntax.named 3) Syntax.imm (Syntax.tyInt Syntax.w64)) 3) (List._∷_ (5, Rows'.sslice (Struct″.row StepT.the-type) (Syntax.tyRef (Syntax.named 4) Syntax.imm (Memory″.pointee ((Struct″.row StepT.the-type) .written))) 4) (List._∷_ (6, Rows'.sc-here (Row.sInt Syntax.w64)) (List._∷_ (7, Rows'.any-gone (Syntax.tyArray Syntax.tyBool 256)) (List._∷_ (8, Rows'.any-gone (Syntax.tyArray Syntax.tyBool 256)) (List._∷_ (9, Rows'.any-gone (Syntax.tyInt Syntax.w64)) (List._∷_ (10, Rows'.any-gone (Syntax.tyInt Syntax.w64)) (List._∷_ (11, Rows'.any-gone Syntax.tyBool) (List._∷_ (12, Rows'.any-gone (Syntax.tyInt Syntax.w8)) (List._∷_ (13, Rows'.any-gone Syntax.tyUnit) (List._∷_ (14, Rows'.any-gone (Syntax.tyRef Syntax.erased Syntax.mut (Syntax.tyArray Syntax.tyBool 256))) (List._∷_ (15, Rows'.any-gone (Syntax.tyStruct (List._∷_ 38 (List._∷_ 91 (List._∷_ 93 List.[]))) (Syntax.tcons (Syntax.tyRef Syntax.erased Syntax.mut Syntax.tyBool) (Syntax.tcons (Syntax.tyInt Syntax.w64) Syntax.tnil)))) List.[])))))))))))))))
+t10 = List._∷_ (0, Rows'.whole (Declared.row Survey.the-type)) (List._∷_ (1, Rows'.sslice (Referent.rtF (Referent.fInt Syntax.w8)) (Syntax.tyRef (Syntax.named 0) Syntax.imm (Syntax.tyInt Syntax.w8)) 0) (List._∷_ (2, Rows'.sslice (Referent.rtF Referent.fBool) (Syntax.tyRef (Syntax.named 1) Syntax.imm Syntax.tyBool) 1) (List._∷_ (3, Rows'.sslice (Referent.rtF (Referent.fInt Syntax.w64)) (Syntax.tyRef (Syntax.named 2) Syntax.imm (Syntax.tyInt Syntax.w64)) 2) (List._∷_ (4, Rows'.sslice (Referent.rtF (Referent.fInt Syntax.w64)) (Syntax.tyRef (Syntax.named 3) Syntax.imm (Syntax.tyInt Syntax.w64)) 3) (List._∷_ (5, Rows'.sslice (Struct″.row StepT.the-type) (Syntax.tyRef (Syntax.named 4) Syntax.imm (Memory″.pointee ((Struct″.row StepT.the-type) .written))) 4) (List._∷_ (6, Rows'.sc-here (Row.sInt Syntax.w64)) (List._∷_ (7, Rows'.any-gone (Syntax.tyArray Syntax.tyBool 256)) (List._∷_ (8, Rows'.any-gone (Syntax.tyArray (Syntax.tyInt Syntax.w64) 2)) (List._∷_ (9, Rows'.any-gone (Syntax.tyInt Syntax.w64)) (List._∷_ (10, Rows'.any-gone (Syntax.tyInt Syntax.w64)) (List._∷_ (11, Rows'.any-gone Syntax.tyBool) (List._∷_ (12, Rows'.any-gone (Syntax.tyInt Syntax.w8)) (List._∷_ (13, Rows'.any-gone Syntax.tyUnit) (List._∷_ (14, Rows'.any-gone (Syntax.tyRef Syntax.erased Syntax.mut (Syntax.tyArray Syntax.tyBool 256))) (List._∷_ (15, Rows'.any-gone (Syntax.tyStruct (List._∷_ 38 (List._∷_ 91 (List._∷_ 93 List.[]))) (Syntax.tcons (Syntax.tyRef Syntax.erased Syntax.mut Syntax.tyBool) (Syntax.tcons (Syntax.tyInt Syntax.w64) Syntax.tnil)))) List.[])))))))))))))))
 
 abbrev pub t11 : List.List Row.Entry
-t11 = List._∷_ (0, Rows'.any-gone (Syntax.tyEnum (List._∷_ 115 (List._∷_ 117 (List._∷_ 114 (List._∷_ 118 (List._∷_ 101 (List._∷_ 121 (List._∷_ 111 (List._∷_ 114 (List._∷_ 58 (List._∷_ 58 (List._∷_ 83 (List._∷_ 117 (List._∷_ 114 (List._∷_ 118 (List._∷_ 101 (List._∷_ 121 List.[])))))))))))))))) (Syntax.ttcons (Syntax.tcons (Syntax.tyEnum (List._∷_ 114 (List._∷_ 101 (List._∷_ 102 (List._∷_ 117 (List._∷_ 115 (List._∷_ 97 (List._∷_ 108 (List._∷_ 58 (List._∷_ 58 (List._∷_ 82 (List._∷_ 101 (List._∷_ 102 (List._∷_ 117 (List._∷_ 115 (List._∷_ 97 (List._∷_ 108 List.[])))))))))))))))) (Syntax.ttcons Syntax.tnil (Syntax.ttcons Syntax.tnil (Syntax.ttcons Syntax.tnil (Syntax.ttcons (Syntax.tcons (Syntax.tyStruct (List._∷_ 115 (List._∷_ 104 (List._∷_ 101 (List._∷_ 101 (List._∷_ 116 (List._∷_ 58 (List._∷_ 58 (List._∷_ 84 (List._∷_ 101 (List._∷_ 114 (List._∷_ 109 (List._∷_ 78 (List._∷_ 117 (List._∷_ 109 (List._∷_ 98 (List._∷_ 101 (List._∷_ 114 List.[]))))))))))))))))) (Syntax.tcons (Syntax.tyInt Syntax.w8) Syntax.tnil)) Syntax.tnil) (Syntax.ttcons (Syntax.tcons (Syntax.tyStruct (List._∷_ 115 (List._∷_ 104 (List._∷_ 101 (List._∷_ 101 (List._∷_ 116 (List._∷_ 58 (List._∷_ 58 (List._∷_ 69 (List._∷_ 110 (List._∷_ 116 (List._∷_ 114 (List._∷_ 121 (List._∷_ 78 (List._∷_ 117 (List._∷_ 109 (List._∷_ 98 (List._∷_ 101 (List._∷_ 114 List.[])))))))))))))))))) (Syntax.tcons (Syntax.tyInt Syntax.w8) Syntax.tnil)) Syntax.tnil) (Syntax.ttcons Syntax.tnil Syntax.ttnil))))))) Syntax.tnil) (Syntax.ttcons Syntax.tnil (Syntax.ttcons Syntax.tnil (Syntax.ttcons (Syntax.tcons (Syntax.tyInt Syntax.w8) Syntax.tnil) Syntax.ttnil)))))) (List._∷_ (1, Rows'.sslice (Referent.rtF (Referent.fInt Syntax.w8)) (Syntax.tyRef (Syntax.named 0) Syntax.imm (Syntax.tyInt Syntax.w8)) 0) (List._∷_ (2, Rows'.sslice (Referent.rtF Referent.fBool) (Syntax.tyRef (Syntax.named 1) Syntax.imm Syntax.tyBool) 1) (List._∷_ (3, Rows'.sslice (Referent.rtF (Referent.fInt Syntax.w64)) (Syntax.tyRef (Syntax.named 2) Syntax.imm (Syntax.tyInt Syntax.w64)) 2) (List._∷_ (4, Rows'.sslice (Referent.rtF (Referent.fInt Syntax.w64)) (Syntax.tyRef (Syntax.named 3) Syntax.imm (Syntax.tyInt Syntax.w64)) 3) (List._∷_ (5, Rows'.sslice (Struct″.row StepT.the-type) (Syntax.tyRef (Syntax.named 4) Syntax.imm (Memory″.pointee ((Struct″.row StepT.the-type) .written))) 4) (List._∷_ (6, Rows'.sc-here (Row.sInt Syntax.w64)) (List._∷_ (7, Rows'.whole (Array.Array (Referent.rtF Referent.fBool) 256)) (List._∷_ (8, Rows'.any-gone (Syntax.tyArray Syntax.tyBool 256)) (List._∷_ (9, Rows'.any-gone (Syntax.tyInt Syntax.w64)) (List._∷_ (10, Rows'.any-gone (Syntax.tyInt Syntax.w64)) (List._∷_ (11, Rows'.any-gone Syntax.tyBool) (List._∷_ (12, Rows'.any-gone (Syntax.tyInt Syntax.w8)) (List._∷_ (13, Rows'.any-gone Syntax.tyUnit) (List._∷_ (14, Rows'.any-gone (Syntax.tyRef Syntax.erased Syntax.mut (Syntax.tyArray Syntax.tyBool 256))) (List._∷_ (15, Rows'.any-gone (Syntax.tyStruct (List._∷_ 38 (List._∷_ 91 (List._∷_ 93 List.[]))) (Syntax.tcons (Syntax.tyRef Syntax.erased Syntax.mut Syntax.tyBool) (Syntax.tcons (Syntax.tyInt Syntax.w64) Syntax.tnil)))) List.[])))))))))))))))
+t11 = List._∷_ (0, Rows'.any-gone (Syntax.tyEnum (List._∷_ 115 (List._∷_ 117 (List._∷_ 114 (List._∷_ 118 (List._∷_ 101 (List._∷_ 121 (List._∷_ 111 (List._∷_ 114 (List._∷_ 58 (List._∷_ 58 (List._∷_ 83 (List._∷_ 117 (List._∷_ 114 (List._∷_ 118 (List._∷_ 101 (List._∷_ 121 List.[])))))))))))))))) (Syntax.ttcons (Syntax.tcons (Syntax.tyEnum (List._∷_ 114 (List._∷_ 101 (List._∷_ 102 (List._∷_ 117 (List._∷_ 115 (List._∷_ 97 (List._∷_ 108 (List._∷_ 58 (List._∷_ 58 (List._∷_ 82 (List._∷_ 101 (List._∷_ 102 (List._∷_ 117 (List._∷_ 115 (List._∷_ 97 (List._∷_ 108 List.[])))))))))))))))) (Syntax.ttcons Syntax.tnil (Syntax.ttcons Syntax.tnil (Syntax.ttcons Syntax.tnil (Syntax.ttcons (Syntax.tcons (Syntax.tyStruct (List._∷_ 115 (List._∷_ 104 (List._∷_ 101 (List._∷_ 101 (List._∷_ 116 (List._∷_ 58 (List._∷_ 58 (List._∷_ 84 (List._∷_ 101 (List._∷_ 114 (List._∷_ 109 (List._∷_ 78 (List._∷_ 117 (List._∷_ 109 (List._∷_ 98 (List._∷_ 101 (List._∷_ 114 List.[]))))))))))))))))) (Syntax.tcons (Syntax.tyInt Syntax.w8) Syntax.tnil)) Syntax.tnil) (Syntax.ttcons (Syntax.tcons (Syntax.tyStruct (List._∷_ 115 (List._∷_ 104 (List._∷_ 101 (List._∷_ 101 (List._∷_ 116 (List._∷_ 58 (List._∷_ 58 (List._∷_ 69 (List._∷_ 110 (List._∷_ 116 (List._∷_ 114 (List._∷_ 121 (List._∷_ 78 (List._∷_ 117 (List._∷_ 109 (List._∷_ 98 (List._∷_ 101 (List._∷_ 114 List.[])))))))))))))))))) (Syntax.tcons (Syntax.tyInt Syntax.w8) Syntax.tnil)) Syntax.tnil) (Syntax.ttcons Syntax.tnil Syntax.ttnil))))))) Syntax.tnil) (Syntax.ttcons Syntax.tnil (Syntax.ttcons Syntax.tnil (Syntax.ttcons (Syntax.tcons (Syntax.tyInt Syntax.w8) Syntax.tnil) Syntax.ttnil)))))) (List._∷_ (1, Rows'.sslice (Referent.rtF (Referent.fInt Syntax.w8)) (Syntax.tyRef (Syntax.named 0) Syntax.imm (Syntax.tyInt Syntax.w8)) 0) (List._∷_ (2, Rows'.sslice (Referent.rtF Referent.fBool) (Syntax.tyRef (Syntax.named 1) Syntax.imm Syntax.tyBool) 1) (List._∷_ (3, Rows'.sslice (Referent.rtF (Referent.fInt Syntax.w64)) (Syntax.tyRef (Syntax.named 2) Syntax.imm (Syntax.tyInt Syntax.w64)) 2) (List._∷_ (4, Rows'.sslice (Referent.rtF (Referent.fInt Syntax.w64)) (Syntax.tyRef (Syntax.named 3) Syntax.imm (Syntax.tyInt Syntax.w64)) 3) (List._∷_ (5, Rows'.sslice (Struct″.row StepT.the-type) (Syntax.tyRef (Syntax.named 4) Syntax.imm (Memory″.pointee ((Struct″.row StepT.the-type) .written))) 4) (List._∷_ (6, Rows'.sc-here (Row.sInt Syntax.w64)) (List._∷_ (7, Rows'.whole (Array.Array (Referent.rtF Referent.fBool) 256)) (List._∷_ (8, Rows'.any-gone (Syntax.tyArray (Syntax.tyInt Syntax.w64) 2)) (List._∷_ (9, Rows'.any-gone (Syntax.tyInt Syntax.w64)) (List._∷_ (10, Rows'.any-gone (Syntax.tyInt Syntax.w64)) (List._∷_ (11, Rows'.any-gone Syntax.tyBool) (List._∷_ (12, Rows'.any-gone (Syntax.tyInt Syntax.w8)) (List._∷_ (13, Rows'.any-gone Syntax.tyUnit) (List._∷_ (14, Rows'.any-gone (Syntax.tyRef Syntax.erased Syntax.mut (Syntax.tyArray Syntax.tyBool 256))) (List._∷_ (15, Rows'.any-gone (Syntax.tyStruct (List._∷_ 38 (List._∷_ 91 (List._∷_ 93 List.[]))) (Syntax.tcons (Syntax.tyRef Syntax.erased Syntax.mut Syntax.tyBool) (Syntax.tcons (Syntax.tyInt Syntax.w64) Syntax.tnil)))) List.[])))))))))))))))
 
 abbrev pub t12 : List.List Row.Entry
-t12 = List._∷_ (0, Rows'.any-gone (Syntax.tyEnum (List._∷_ 115 (List._∷_ 117 (List._∷_ 114 (List._∷_ 118 (List._∷_ 101 (List._∷_ 121 (List._∷_ 111 (List._∷_ 114 (List._∷_ 58 (List._∷_ 58 (List._∷_ 83 (List._∷_ 117 (List._∷_ 114 (List._∷_ 118 (List._∷_ 101 (List._∷_ 121 List.[])))))))))))))))) (Syntax.ttcons (Syntax.tcons (Syntax.tyEnum (List._∷_ 114 (List._∷_ 101 (List._∷_ 102 (List._∷_ 117 (List._∷_ 115 (List._∷_ 97 (List._∷_ 108 (List._∷_ 58 (List._∷_ 58 (List._∷_ 82 (List._∷_ 101 (List._∷_ 102 (List._∷_ 117 (List._∷_ 115 (List._∷_ 97 (List._∷_ 108 List.[])))))))))))))))) (Syntax.ttcons Syntax.tnil (Syntax.ttcons Syntax.tnil (Syntax.ttcons Syntax.tnil (Syntax.ttcons (Syntax.tcons (Syntax.tyStruct (List._∷_ 115 (List._∷_ 104 (List._∷_ 101 (List._∷_ 101 (List._∷_ 116 (List._∷_ 58 (List._∷_ 58 (List._∷_ 84 (List._∷_ 101 (List._∷_ 114 (List._∷_ 109 (List._∷_ 78 (List._∷_ 117 (List._∷_ 109 (List._∷_ 98 (List._∷_ 101 (List._∷_ 114 List.[]))))))))))))))))) (Syntax.tcons (Syntax.tyInt Syntax.w8) Syntax.tnil)) Syntax.tnil) (Syntax.ttcons (Syntax.tcons (Syntax.tyStruct (List._∷_ 115 (List._∷_ 104 (List._∷_ 101 (List._∷_ 101 (List._∷_ 116 (List._∷_ 58 (List._∷_ 58 (List._∷_ 69 (List._∷_ 110 (List._∷_ 116 (List._∷_ 114 (List._∷_ 121 (List._∷_ 78 (List._∷_ 117 (List._∷_ 109 (List._∷_ 98 (List._∷_ 101 (List._∷_ 114 List.[])))))))))))))))))) (Syntax.tcons (Syntax.tyInt Syntax.w8) Syntax.tnil)) Syntax.tnil) (Syntax.ttcons Syntax.tnil Syntax.ttnil))))))) Syntax.tnil) (Syntax.ttcons Syntax.tnil (Syntax.ttcons Syntax.tnil (Syntax.ttcons (Syntax.tcons (Syntax.tyInt Syntax.w8) Syntax.tnil) Syntax.ttnil)))))) (List._∷_ (1, Rows'.sslice (Referent.rtF (Referent.fInt Syntax.w8)) (Syntax.tyRef (Syntax.named 0) Syntax.imm (Syntax.tyInt Syntax.w8)) 0) (List._∷_ (2, Rows'.sslice (Referent.rtF Referent.fBool) (Syntax.tyRef (Syntax.named 1) Syntax.imm Syntax.tyBool) 1) (List._∷_ (3, Rows'.sslice (Referent.rtF (Referent.fInt Syntax.w64)) (Syntax.tyRef (Syntax.named 2) Syntax.imm (Syntax.tyInt Syntax.w64)) 2) (List._∷_ (4, Rows'.sslice (Referent.rtF (Referent.fInt Syntax.w64)) (Syntax.tyRef (Syntax.named 3) Syntax.imm (Syntax.tyInt Syntax.w64)) 3) (List._∷_ (5, Rows'.sslice (Struct″.row StepT.the-type) (Syntax.tyRef (Syntax.named 4) Syntax.imm (Memory″.pointee ((Struct″.row StepT.the-type) .written))) 4) (List._∷_ (6, Rows'.sc-here (Row.sInt Syntax.w64)) (List._∷_ (7, Rows.arrF (Referent.rtF Referent.fBool) 256 0) (List._∷_ (8, Rows'.any-gone (Syntax.tyArray Syntax.tyBool 256)) (List._∷_ (9, Rows'.any-gone (Syntax.tyInt Syntax.w64)) (List._∷_ (10, Rows'.any-gone (Syntax.tyInt Syntax.w64)) (List._∷_ (11, Rows'.any-gone Syntax.tyBool) (List._∷_ (12, Rows'.any-gone (Syntax.tyInt Syntax.w8)) (List._∷_ (13, Rows'.any-gone Syntax.tyUnit) (List._∷_ (14, Rows'.any-gone (Syntax.tyRef Syntax.erased Syntax.mut (Syntax.tyArray Syntax.tyBool 256))) (List._∷_ (15, Rows'.any-gone (Syntax.tyStruct (List._∷_ 38 (List._∷_ 91 (List._∷_ 93 List.[]))) (Syntax.tcons (Syntax.tyRef Syntax.erased Syntax.mut Syntax.tyBool) (Syntax.tcons (Syntax.tyInt Syntax.w64) Syntax.tnil)))) List.[])))))))))))))))
+t12 = List._∷_ (0, Rows'.any-gone (Syntax.tyEnum (List._∷_ 115 (List._∷_ 117 (List._∷_ 114 (List._∷_ 118 (List._∷_ 101 (List._∷_ 121 (List._∷_ 111 (List._∷_ 114 (List._∷_ 58 (List._∷_ 58 (List._∷_ 83 (List._∷_ 117 (List._∷_ 114 (List._∷_ 118 (List._∷_ 101 (List._∷_ 121 List.[])))))))))))))))) (Syntax.ttcons (Syntax.tcons (Syntax.tyEnum (List._∷_ 114 (List._∷_ 101 (List._∷_ 102 (List._∷_ 117 (List._∷_ 115 (List._∷_ 97 (List._∷_ 108 (List._∷_ 58 (List._∷_ 58 (List._∷_ 82 (List._∷_ 101 (List._∷_ 102 (List._∷_ 117 (List._∷_ 115 (List._∷_ 97 (List._∷_ 108 List.[])))))))))))))))) (Syntax.ttcons Syntax.tnil (Syntax.ttcons Syntax.tnil (Syntax.ttcons Syntax.tnil (Syntax.ttcons (Syntax.tcons (Syntax.tyStruct (List._∷_ 115 (List._∷_ 104 (List._∷_ 101 (List._∷_ 101 (List._∷_ 116 (List._∷_ 58 (List._∷_ 58 (List._∷_ 84 (List._∷_ 101 (List._∷_ 114 (List._∷_ 109 (List._∷_ 78 (List._∷_ 117 (List._∷_ 109 (List._∷_ 98 (List._∷_ 101 (List._∷_ 114 List.[]))))))))))))))))) (Syntax.tcons (Syntax.tyInt Syntax.w8) Syntax.tnil)) Syntax.tnil) (Syntax.ttcons (Syntax.tcons (Syntax.tyStruct (List._∷_ 115 (List._∷_ 104 (List._∷_ 101 (List._∷_ 101 (List._∷_ 116 (List._∷_ 58 (List._∷_ 58 (List._∷_ 69 (List._∷_ 110 (List._∷_ 116 (List._∷_ 114 (List._∷_ 121 (List._∷_ 78 (List._∷_ 117 (List._∷_ 109 (List._∷_ 98 (List._∷_ 101 (List._∷_ 114 List.[])))))))))))))))))) (Syntax.tcons (Syntax.tyInt Syntax.w8) Syntax.tnil)) Syntax.tnil) (Syntax.ttcons Syntax.tnil Syntax.ttnil))))))) Syntax.tnil) (Syntax.ttcons Syntax.tnil (Syntax.ttcons Syntax.tnil (Syntax.ttcons (Syntax.tcons (Syntax.tyInt Syntax.w8) Syntax.tnil) Syntax.ttnil)))))) (List._∷_ (1, Rows'.sslice (Referent.rtF (Referent.fInt Syntax.w8)) (Syntax.tyRef (Syntax.named 0) Syntax.imm (Syntax.tyInt Syntax.w8)) 0) (List._∷_ (2, Rows'.sslice (Referent.rtF Referent.fBool) (Syntax.tyRef (Syntax.named 1) Syntax.imm Syntax.tyBool) 1) (List._∷_ (3, Rows'.sslice (Referent.rtF (Referent.fInt Syntax.w64)) (Syntax.tyRef (Syntax.named 2) Syntax.imm (Syntax.tyInt Syntax.w64)) 2) (List._∷_ (4, Rows'.sslice (Referent.rtF (Referent.fInt Syntax.w64)) (Syntax.tyRef (Syntax.named 3) Syntax.imm (Syntax.tyInt Syntax.w64)) 3) (List._∷_ (5, Rows'.sslice (Struct″.row StepT.the-type) (Syntax.tyRef (Syntax.named 4) Syntax.imm (Memory″.pointee ((Struct″.row StepT.the-type) .written))) 4) (List._∷_ (6, Rows'.sc-here (Row.sInt Syntax.w64)) (List._∷_ (7, Rows.arrF (Referent.rtF Referent.fBool) 256 0) (List._∷_ (8, Rows'.any-gone (Syntax.tyArray (Syntax.tyInt Syntax.w64) 2)) (List._∷_ (9, Rows'.any-gone (Syntax.tyInt Syntax.w64)) (List._∷_ (10, Rows'.any-gone (Syntax.tyInt Syntax.w64)) (List._∷_ (11, Rows'.any-gone Syntax.tyBool) (List._∷_ (12, Rows'.any-gone (Syntax.tyInt Syntax.w8)) (List._∷_ (13, Rows'.any-gone Syntax.tyUnit) (List._∷_ (14, Rows'.any-gone (Syntax.tyRef Syntax.erased Syntax.mut (Syntax.tyArray Syntax.tyBool 256))) (List._∷_ (15, Rows'.any-gone (Syntax.tyStruct (List._∷_ 38 (List._∷_ 91 (List._∷_ 93 List.[]))) (Syntax.tcons (Syntax.tyRef Syntax.erased Syntax.mut Syntax.tyBool) (Syntax.tcons (Syntax.tyInt Syntax.w64) Syntax.tnil)))) List.[])))))))))))))))
 
 abbrev pub t13 : List.List Row.Entry
-t13 = List._∷_ (0, Rows'.any-gone (Syntax.tyEnum (List._∷_ 115 (List._∷_ 117 (List._∷_ 114 (List._∷_ 118 (List._∷_ 101 (List._∷_ 121 (List._∷_ 111 (List._∷_ 114 (List._∷_ 58 (List._∷_ 58 (List._∷_ 83 (List._∷_ 117 (List._∷_ 114 (List._∷_ 118 (List._∷_ 101 (List._∷_ 121 List.[])))))))))))))))) (Syntax.ttcons (Syntax.tcons (Syntax.tyEnum (List._∷_ 114 (List._∷_ 101 (List._∷_ 102 (List._∷_ 117 (List._∷_ 115 (List._∷_ 97 (List._∷_ 108 (List._∷_ 58 (List._∷_ 58 (List._∷_ 82 (List._∷_ 101 (List._∷_ 102 (List._∷_ 117 (List._∷_ 115 (List._∷_ 97 (List._∷_ 108 List.[])))))))))))))))) (Syntax.ttcons Syntax.tnil (Syntax.ttcons Syntax.tnil (Syntax.ttcons Syntax.tnil (Syntax.ttcons (Syntax.tcons (Syntax.tyStruct (List._∷_ 115 (List._∷_ 104 (List._∷_ 101 (List._∷_ 101 (List._∷_ 116 (List._∷_ 58 (List._∷_ 58 (List._∷_ 84 (List._∷_ 101 (List._∷_ 114 (List._∷_ 109 (List._∷_ 78 (List._∷_ 117 (List._∷_ 109 (List._∷_ 98 (List._∷_ 101 (List._∷_ 114 List.[]))))))))))))))))) (Syntax.tcons (Syntax.tyInt Syntax.w8) Syntax.tnil)) Syntax.tnil) (Syntax.ttcons (Syntax.tcons (Syntax.tyStruct (List._∷_ 115 (List._∷_ 104 (List._∷_ 101 (List._∷_ 101 (List._∷_ 116 (List._∷_ 58 (List._∷_ 58 (List._∷_ 69 (List._∷_ 110 (List._∷_ 116 (List._∷_ 114 (List._∷_ 121 (List._∷_ 78 (List._∷_ 117 (List._∷_ 109 (List._∷_ 98 (List._∷_ 101 (List._∷_ 114 List.[])))))))))))))))))) (Syntax.tcons (Syntax.tyInt Syntax.w8) Syntax.tnil)) Syntax.tnil) (Syntax.ttcons Syntax.tnil Syntax.ttnil))))))) Syntax.tnil) (Syntax.ttcons Syntax.tnil (Syntax.ttcons Syntax.tnil (Syntax.ttcons (Syntax.tcons (Syntax.tyInt Syntax.w8) Syntax.tnil) Syntax.ttnil)))))) (List._∷_ (1, Rows'.sslice (Referent.rtF (Referent.fInt Syntax.w8)) (Syntax.tyRef (Syntax.named 0) Syntax.imm (Syntax.tyInt Syntax.w8)) 0) (List._∷_ (2, Rows'.sslice (Referent.rtF Referent.fBool) (Syntax.tyRef (Syntax.named 1) Syntax.imm Syntax.tyBool) 1) (List._∷_ (3, Rows'.sslice (Referent.rtF (Referent.fInt Syntax.w64)) (Syntax.tyRef (Syntax.named 2) Syntax.imm (Syntax.tyInt Syntax.w64)) 2) (List._∷_ (4, Rows'.sslice (Referent.rtF (Referent.fInt Syntax.w64)) (Syntax.tyRef (Syntax.named 3) Syntax.imm (Syntax.tyInt Syntax.w64)) 3) (List._∷_ (5, Rows'.sslice (Struct″.row StepT.the-type) (Syntax.tyRef (Syntax.named 4) Syntax.imm (Memory″.pointee ((Struct″.row StepT.the-type) .written))) 4) (List._∷_ (6, Rows'.sc-here (Row.sInt Syntax.w64)) (List._∷_ (7, Rows.arrF (Referent.rtF Referent.fBool) 256 0) (List._∷_ (8, Rows'.whole (Array.Array (Referent.rtF Referent.fBool) 256)) (List._∷_ (9, Rows'.any-gone (Syntax.tyInt Syntax.w64)) (List._∷_ (10, Rows'.any-gone (Syntax.tyInt Syntax.w64)) (List._∷_ (11, Rows'.any-gone Syntax.tyBool) (List._∷_ (12, Rows'.any-gone (Syntax.tyInt Syntax.w8)) (List._∷_ (13, Rows'.any-gone Syntax.tyUnit) (List._∷_ (14, Rows'.any-gone (Syntax.tyRef Syntax.erased Syntax.mut (Syntax.tyArray Syntax.tyBool 256))) (List._∷_ (15, Rows'.any-gone (Syntax.tyStruct (List._∷_ 38 (List._∷_ 91 (List._∷_ 93 List.[]))) (Syntax.tcons (Syntax.tyRef Syntax.erased Syntax.mut Syntax.tyBool) (Syntax.tcons (Syntax.tyInt Syntax.w64) Syntax.tnil)))) List.[])))))))))))))))
+t13 = List._∷_ (0, Rows'.any-gone (Syntax.tyEnum (List._∷_ 115 (List._∷_ 117 (List._∷_ 114 (List._∷_ 118 (List._∷_ 101 (List._∷_ 121 (List._∷_ 111 (List._∷_ 114 (List._∷_ 58 (List._∷_ 58 (List._∷_ 83 (List._∷_ 117 (List._∷_ 114 (List._∷_ 118 (List._∷_ 101 (List._∷_ 121 List.[])))))))))))))))) (Syntax.ttcons (Syntax.tcons (Syntax.tyEnum (List._∷_ 114 (List._∷_ 101 (List._∷_ 102 (List._∷_ 117 (List._∷_ 115 (List._∷_ 97 (List._∷_ 108 (List._∷_ 58 (List._∷_ 58 (List._∷_ 82 (List._∷_ 101 (List._∷_ 102 (List._∷_ 117 (List._∷_ 115 (List._∷_ 97 (List._∷_ 108 List.[])))))))))))))))) (Syntax.ttcons Syntax.tnil (Syntax.ttcons Syntax.tnil (Syntax.ttcons Syntax.tnil (Syntax.ttcons (Syntax.tcons (Syntax.tyStruct (List._∷_ 115 (List._∷_ 104 (List._∷_ 101 (List._∷_ 101 (List._∷_ 116 (List._∷_ 58 (List._∷_ 58 (List._∷_ 84 (List._∷_ 101 (List._∷_ 114 (List._∷_ 109 (List._∷_ 78 (List._∷_ 117 (List._∷_ 109 (List._∷_ 98 (List._∷_ 101 (List._∷_ 114 List.[]))))))))))))))))) (Syntax.tcons (Syntax.tyInt Syntax.w8) Syntax.tnil)) Syntax.tnil) (Syntax.ttcons (Syntax.tcons (Syntax.tyStruct (List._∷_ 115 (List._∷_ 104 (List._∷_ 101 (List._∷_ 101 (List._∷_ 116 (List._∷_ 58 (List._∷_ 58 (List._∷_ 69 (List._∷_ 110 (List._∷_ 116 (List._∷_ 114 (List._∷_ 121 (List._∷_ 78 (List._∷_ 117 (List._∷_ 109 (List._∷_ 98 (List._∷_ 101 (List._∷_ 114 List.[])))))))))))))))))) (Syntax.tcons (Syntax.tyInt Syntax.w8) Syntax.tnil)) Syntax.tnil) (Syntax.ttcons Syntax.tnil Syntax.ttnil))))))) Syntax.tnil) (Syntax.ttcons Syntax.tnil (Syntax.ttcons Syntax.tnil (Syntax.ttcons (Syntax.tcons (Syntax.tyInt Syntax.w8) Syntax.tnil) Syntax.ttnil)))))) (List._∷_ (1, Rows'.sslice (Referent.rtF (Referent.fInt Syntax.w8)) (Syntax.tyRef (Syntax.named 0) Syntax.imm (Syntax.tyInt Syntax.w8)) 0) (List._∷_ (2, Rows'.sslice (Referent.rtF Referent.fBool) (Syntax.tyRef (Syntax.named 1) Syntax.imm Syntax.tyBool) 1) (List._∷_ (3, Rows'.sslice (Referent.rtF (Referent.fInt Syntax.w64)) (Syntax.tyRef (Syntax.named 2) Syntax.imm (Syntax.tyInt Syntax.w64)) 2) (List._∷_ (4, Rows'.sslice (Referent.rtF (Referent.fInt Syntax.w64)) (Syntax.tyRef (Syntax.named 3) Syntax.imm (Syntax.tyInt Syntax.w64)) 3) (List._∷_ (5, Rows'.sslice (Struct″.row StepT.the-type) (Syntax.tyRef (Syntax.named 4) Syntax.imm (Memory″.pointee ((Struct″.row StepT.the-type) .written))) 4) (List._∷_ (6, Rows'.sc-here (Row.sInt Syntax.w64)) (List._∷_ (7, Rows.arrF (Referent.rtF Referent.fBool) 256 0) (List._∷_ (8, Rows'.whole (Array.Array (Referent.rtF (Referent.fInt Syntax.w64)) 2)) (List._∷_ (9, Rows'.any-gone (Syntax.tyInt Syntax.w64)) (List._∷_ (10, Rows'.any-gone (Syntax.tyInt Syntax.w64)) (List._∷_ (11, Rows'.any-gone Syntax.tyBool) (List._∷_ (12, Rows'.any-gone (Syntax.tyInt Syntax.w8)) (List._∷_ (13, Rows'.any-gone Syntax.tyUnit) (List._∷_ (14, Rows'.any-gone (Syntax.tyRef Syntax.erased Syntax.mut (Syntax.tyArray Syntax.tyBool 256))) (List._∷_ (15, Rows'.any-gone (Syntax.tyStruct (List._∷_ 38 (List._∷_ 91 (List._∷_ 93 List.[]))) (Syntax.tcons (Syntax.tyRef Syntax.erased Syntax.mut Syntax.tyBool) (Syntax.tcons (Syntax.tyInt Syntax.w64) Syntax.tnil)))) List.[])))))))))))))))
 
 abbrev pub t14 : List.List Row.Entry
-t14 = List._∷_ (0, Rows'.any-gone (Syntax.tyEnum (List._∷_ 115 (List._∷_ 117 (List._∷_ 114 (List._∷_ 118 (List._∷_ 101 (List._∷_ 121 (List._∷_ 111 (List._∷_ 114 (List._∷_ 58 (List._∷_ 58 (List._∷_ 83 (List._∷_ 117 (List._∷_ 114 (List._∷_ 118 (List._∷_ 101 (List._∷_ 121 List.[])))))))))))))))) (Syntax.ttcons (Syntax.tcons (Syntax.tyEnum (List._∷_ 114 (List._∷_ 101 (List._∷_ 102 (List._∷_ 117 (List._∷_ 115 (List._∷_ 97 (List._∷_ 108 (List._∷_ 58 (List._∷_ 58 (List._∷_ 82 (List._∷_ 101 (List._∷_ 102 (List._∷_ 117 (List._∷_ 115 (List._∷_ 97 (List._∷_ 108 List.[])))))))))))))))) (Syntax.ttcons Syntax.tnil (Syntax.ttcons Syntax.tnil (Syntax.ttcons Syntax.tnil (Syntax.ttcons (Syntax.tcons (Syntax.tyStruct (List._∷_ 115 (List._∷_ 104 (List._∷_ 101 (List._∷_ 101 (List._∷_ 116 (List._∷_ 58 (List._∷_ 58 (List._∷_ 84 (List._∷_ 101 (List._∷_ 114 (List._∷_ 109 (List._∷_ 78 (List._∷_ 117 (List._∷_ 109 (List._∷_ 98 (List._∷_ 101 (List._∷_ 114 List.[]))))))))))))))))) (Syntax.tcons (Syntax.tyInt Syntax.w8) Syntax.tnil)) Syntax.tnil) (Syntax.ttcons (Syntax.tcons (Syntax.tyStruct (List._∷_ 115 (List._∷_ 104 (List._∷_ 101 (List._∷_ 101 (List._∷_ 116 (List._∷_ 58 (List._∷_ 58 (List._∷_ 69 (List._∷_ 110 (List._∷_ 116 (List._∷_ 114 (List._∷_ 121 (List._∷_ 78 (List._∷_ 117 (List._∷_ 109 (List._∷_ 98 (List._∷_ 101 (List._∷_ 114 List.[])))))))))))))))))) (Syntax.tcons (Syntax.tyInt Syntax.w8) Syntax.tnil)) Syntax.tnil) (Syntax.ttcons Syntax.tnil Syntax.ttnil))))))) Syntax.tnil) (Syntax.ttcons Syntax.tnil (Syntax.ttcons Syntax.tnil (Syntax.ttcons (Syntax.tcons (Syntax.tyInt Syntax.w8) Syntax.tnil) Syntax.ttnil)))))) (List._∷_ (1, Rows'.sslice (Referent.rtF (Referent.fInt Syntax.w8)) (Syntax.tyRef (Syntax.named 0) Syntax.imm (Syntax.tyInt Syntax.w8)) 0) (List._∷_ (2, Rows'.sslice (Referent.rtF Referent.fBool) (Syntax.tyRef (Syntax.named 1) Syntax.imm Syntax.tyBool) 1) (List._∷_ (3, Rows'.sslice (Referent.rtF (Referent.fInt Syntax.w64)) (Syntax.tyRef (Syntax.named 2) Syntax.imm (Syntax.tyInt Syntax.w64)) 2) (List._∷_ (4, Rows'.sslice (Referent.rtF (Referent.fInt Syntax.w64)) (Syntax.tyRef (Syntax.named 3) Syntax.imm (Syntax.tyInt Syntax.w64)) 3) (List._∷_ (5, Rows'.sslice (Struct″.row StepT.the-type) (Syntax.tyRef (Syntax.named 4) Syntax.imm (Memory″.pointee ((Struct″.row StepT.the-type) .written))) 4) (List._∷_ (6, Rows'.sc-here (Row.sInt Syntax.w64)) (List._∷_ (7, Rows.arrF (Referent.rtF Referent.fBool) 256 0) (List._∷_ (8, Rows.arrF (Referent.rtF Referent.fBool) 256 0) (List._∷_ (9, Rows'.any-gone (Syntax.tyInt Syntax.w64)) (List._∷_ (10, Rows'.any-gone (Syntax.tyInt Syntax.w64)) (List._∷_ (11, Rows'.any-gone Syntax.tyBool) (List._∷_ (12, Rows'.any-gone (Syntax.tyInt Syntax.w8)) (List._∷_ (13, Rows'.any-gone Syntax.tyUnit) (List._∷_ (14, Rows'.any-gone (Syntax.tyRef Syntax.erased Syntax.mut (Syntax.tyArray Syntax.tyBool 256))) (List._∷_ (15, Rows'.any-gone (Syntax.tyStruct (List._∷_ 38 (List._∷_ 91 (List._∷_ 93 List.[]))) (Syntax.tcons (Syntax.tyRef Syntax.erased Syntax.mut Syntax.tyBool) (Syntax.tcons (Syntax.tyInt Syntax.w64) Syntax.tnil)))) List.[])))))))))))))))
+t14 = List._∷_ (0, Rows'.any-gone (Syntax.tyEnum (List._∷_ 115 (List._∷_ 117 (List._∷_ 114 (List._∷_ 118 (List._∷_ 101 (List._∷_ 121 (List._∷_ 111 (List._∷_ 114 (List._∷_ 58 (List._∷_ 58 (List._∷_ 83 (List._∷_ 117 (List._∷_ 114 (List._∷_ 118 (List._∷_ 101 (List._∷_ 121 List.[])))))))))))))))) (Syntax.ttcons (Syntax.tcons (Syntax.tyEnum (List._∷_ 114 (List._∷_ 101 (List._∷_ 102 (List._∷_ 117 (List._∷_ 115 (List._∷_ 97 (List._∷_ 108 (List._∷_ 58 (List._∷_ 58 (List._∷_ 82 (List._∷_ 101 (List._∷_ 102 (List._∷_ 117 (List._∷_ 115 (List._∷_ 97 (List._∷_ 108 List.[])))))))))))))))) (Syntax.ttcons Syntax.tnil (Syntax.ttcons Syntax.tnil (Syntax.ttcons Syntax.tnil (Syntax.ttcons (Syntax.tcons (Syntax.tyStruct (List._∷_ 115 (List._∷_ 104 (List._∷_ 101 (List._∷_ 101 (List._∷_ 116 (List._∷_ 58 (List._∷_ 58 (List._∷_ 84 (List._∷_ 101 (List._∷_ 114 (List._∷_ 109 (List._∷_ 78 (List._∷_ 117 (List._∷_ 109 (List._∷_ 98 (List._∷_ 101 (List._∷_ 114 List.[]))))))))))))))))) (Syntax.tcons (Syntax.tyInt Syntax.w8) Syntax.tnil)) Syntax.tnil) (Syntax.ttcons (Syntax.tcons (Syntax.tyStruct (List._∷_ 115 (List._∷_ 104 (List._∷_ 101 (List._∷_ 101 (List._∷_ 116 (List._∷_ 58 (List._∷_ 58 (List._∷_ 69 (List._∷_ 110 (List._∷_ 116 (List._∷_ 114 (List._∷_ 121 (List._∷_ 78 (List._∷_ 117 (List._∷_ 109 (List._∷_ 98 (List._∷_ 101 (List._∷_ 114 List.[])))))))))))))))))) (Syntax.tcons (Syntax.tyInt Syntax.w8) Syntax.tnil)) Syntax.tnil) (Syntax.ttcons Syntax.tnil Syntax.ttnil))))))) Syntax.tnil) (Syntax.ttcons Syntax.tnil (Syntax.ttcons Syntax.tnil (Syntax.ttcons (Syntax.tcons (Syntax.tyInt Syntax.w8) Syntax.tnil) Syntax.ttnil)))))) (List._∷_ (1, Rows'.sslice (Referent.rtF (Referent.fInt Syntax.w8)) (Syntax.tyRef (Syntax.named 0) Syntax.imm (Syntax.tyInt Syntax.w8)) 0) (List._∷_ (2, Rows'.sslice (Referent.rtF Referent.fBool) (Syntax.tyRef (Syntax.named 1) Syntax.imm Syntax.tyBool) 1) (List._∷_ (3, Rows'.sslice (Referent.rtF (Referent.fInt Syntax.w64)) (Syntax.tyRef (Syntax.named 2) Syntax.imm (Syntax.tyInt Syntax.w64)) 2) (List._∷_ (4, Rows'.sslice (Referent.rtF (Referent.fInt Syntax.w64)) (Syntax.tyRef (Syntax.named 3) Syntax.imm (Syntax.tyInt Syntax.w64)) 3) (List._∷_ (5, Rows'.sslice (Struct″.row StepT.the-type) (Syntax.tyRef (Syntax.named 4) Syntax.imm (Memory″.pointee ((Struct″.row StepT.the-type) .written))) 4) (List._∷_ (6, Rows'.sc-here (Row.sInt Syntax.w64)) (List._∷_ (7, Rows.arrF (Referent.rtF Referent.fBool) 256 0) (List._∷_ (8, Rows.arrF (Referent.rtF (Referent.fInt Syntax.w64)) 2 0) (List._∷_ (9, Rows'.any-gone (Syntax.tyInt Syntax.w64)) (List._∷_ (10, Rows'.any-gone (Syntax.tyInt Syntax.w64)) (List._∷_ (11, Rows'.any-gone Syntax.tyBool) (List._∷_ (12, Rows'.any-gone (Syntax.tyInt Syntax.w8)) (List._∷_ (13, Rows'.any-gone Syntax.tyUnit) (List._∷_ (14, Rows'.any-gone (Syntax.tyRef Syntax.erased Syntax.mut (Syntax.tyArray Syntax.tyBool 256))) (List._∷_ (15, Rows'.any-gone (Syntax.tyStruct (List._∷_ 38 (List._∷_ 91 (List._∷_ 93 List.[]))) (Syntax.tcons (Syntax.tyRef Syntax.erased Syntax.mut Syntax.tyBool) (Syntax.tcons (Syntax.tyInt Syntax.w64) Syntax.tnil)))) List.[])))))))))))))))
 
 abbrev pub t15 : List.List Row.Entry
-t15 = List._∷_ (0, Rows'.any-gone (Syntax.tyEnum (List._∷_ 115 (List._∷_ 117 (List._∷_ 114 (List._∷_ 118 (List._∷_ 101 (List._∷_ 121 (List._∷_ 111 (List._∷_ 114 (List._∷_ 58 (List._∷_ 58 (List._∷_ 83 (List._∷_ 117 (List._∷_ 114 (List._∷_ 118 (List._∷_ 101 (List._∷_ 121 List.[])))))))))))))))) (Syntax.ttcons (Syntax.tcons (Syntax.tyEnum (List._∷_ 114 (List._∷_ 101 (List._∷_ 102 (List._∷_ 117 (List._∷_ 115 (List._∷_ 97 (List._∷_ 108 (List._∷_ 58 (List._∷_ 58 (List._∷_ 82 (List._∷_ 101 (List._∷_ 102 (List._∷_ 117 (List._∷_ 115 (List._∷_ 97 (List._∷_ 108 List.[])))))))))))))))) (Syntax.ttcons Syntax.tnil (Syntax.ttcons Syntax.tnil (Syntax.ttcons Syntax.tnil (Syntax.ttcons (Syntax.tcons (Syntax.tyStruct (List._∷_ 115 (List._∷_ 104 (List._∷_ 101 (List._∷_ 101 (List._∷_ 116 (List._∷_ 58 (List._∷_ 58 (List._∷_ 84 (List._∷_ 101 (List._∷_ 114 (List._∷_ 109 (List._∷_ 78 (List._∷_ 117 (List._∷_ 109 (List._∷_ 98 (List._∷_ 101 (List._∷_ 114 List.[]))))))))))))))))) (Syntax.tcons (Syntax.tyInt Syntax.w8) Syntax.tnil)) Syntax.tnil) (Syntax.ttcons (Syntax.tcons (Syntax.tyStruct (List._∷_ 115 (List._∷_ 104 (List._∷_ 101 (List._∷_ 101 (List._∷_ 116 (List._∷_ 58 (List._∷_ 58 (List._∷_ 69 (List._∷_ 110 (List._∷_ 116 (List._∷_ 114 (List._∷_ 121 (List._∷_ 78 (List._∷_ 117 (List._∷_ 109 (List._∷_ 98 (List._∷_ 101 (List._∷_ 114 List.[])))))))))))))))))) (Syntax.tcons (Syntax.tyInt Syntax.w8) Syntax.tnil)) Syntax.tnil) (Syntax.ttcons Syntax.tnil Syntax.ttnil))))))) Syntax.tnil) (Syntax.ttcons Syntax.tnil (Syntax.ttcons Syntax.tnil (Syntax.ttcons (Syntax.tcons (Syntax.tyInt Syntax.w8) Syntax.tnil) Syntax.ttnil)))))) (List._∷_ (1, Rows'.sslice (Referent.rtF (Referent.fInt Syntax.w8)) (Syntax.tyRef (Syntax.named 0) Syntax.imm (Syntax.tyInt Syntax.w8)) 0) (List._∷_ (2, Rows'.sslice (Referent.rtF Referent.fBool) (Syntax.tyRef (Syntax.named 1) Syntax.imm Syntax.tyBool) 1) (List._∷_ (3, Rows'.sslice (Referent.rtF (Referent.fInt Syntax.w64)) (Syntax.tyRef (Syntax.named 2) Syntax.imm (Syntax.tyInt Syntax.w64)) 2) (List._∷_ (4, Rows'.sslice (Referent.rtF (Referent.fInt Syntax.w64)) (Syntax.tyRef (Syntax.named 3) Syntax.imm (Syntax.tyInt Syntax.w64)) 3) (List._∷_ (5, Rows'.sslice (Struct″.row StepT.the-type) (Syntax.tyRef (Syntax.named 4) Syntax.imm (Memory″.pointee ((Struct″.row StepT.the-type) .written))) 4) (List._∷_ (6, Rows'.sc-here (Row.sInt Syntax.w64)) (List._∷_ (7, Rows.arr-owed (Referent.rtF Referent.fBool) 256 5) (List._∷_ (8, Rows.arrF (Referent.rtF Referent.fBool) 256 0) (List._∷_ (9, Rows'.any-gone (Syntax.tyInt Syntax.w64)) (List._∷_ (10, Rows'.any-gone (Syntax.tyInt Syntax.w64)) (List._∷_ (11, Rows'.any-gone Syntax.tyBool) (List._∷_ (12, Rows'.any-gone (Syntax.tyInt Syntax.w8)) (List._∷_ (13, Rows'.any-gone Syntax.tyUnit) (List._∷_ (14, Relend.msptr (Referent.rtF Referent.fBool) (Syntax.tyRef Syntax.erased Syntax.mut (Syntax.tyArray Syntax.tyBool 256)) 5) (List._∷_ (15, Rows'.any-gone (Syntax.tyStruct (List._∷_ 38 (List._∷_ 91 (List._∷_ 93 List.[]))) (Syntax.tcons (Syntax.tyRef Syntax.erased Syntax.mut Syntax.tyBool) (Syntax.tcons (Syntax.tyInt Syntax.w64) Syntax.tnil)))) List.[])))))))))))))))
+t15 = List._∷_ (0, Rows'.any-gone (Syntax.tyEnum (List._∷_ 115 (List._∷_ 117 (List._∷_ 114 (List._∷_ 118 (List._∷_ 101 (List._∷_ 121 (List._∷_ 111 (List._∷_ 114 (List._∷_ 58 (List._∷_ 58 (List._∷_ 83 (List._∷_ 117 (List._∷_ 114 (List._∷_ 118 (List._∷_ 101 (List._∷_ 121 List.[])))))))))))))))) (Syntax.ttcons (Syntax.tcons (Syntax.tyEnum (List._∷_ 114 (List._∷_ 101 (List._∷_ 102 (List._∷_ 117 (List._∷_ 115 (List._∷_ 97 (List._∷_ 108 (List._∷_ 58 (List._∷_ 58 (List._∷_ 82 (List._∷_ 101 (List._∷_ 102 (List._∷_ 117 (List._∷_ 115 (List._∷_ 97 (List._∷_ 108 List.[])))))))))))))))) (Syntax.ttcons Syntax.tnil (Syntax.ttcons Syntax.tnil (Syntax.ttcons Syntax.tnil (Syntax.ttcons (Syntax.tcons (Syntax.tyStruct (List._∷_ 115 (List._∷_ 104 (List._∷_ 101 (List._∷_ 101 (List._∷_ 116 (List._∷_ 58 (List._∷_ 58 (List._∷_ 84 (List._∷_ 101 (List._∷_ 114 (List._∷_ 109 (List._∷_ 78 (List._∷_ 117 (List._∷_ 109 (List._∷_ 98 (List._∷_ 101 (List._∷_ 114 List.[]))))))))))))))))) (Syntax.tcons (Syntax.tyInt Syntax.w8) Syntax.tnil)) Syntax.tnil) (Syntax.ttcons (Syntax.tcons (Syntax.tyStruct (List._∷_ 115 (List._∷_ 104 (List._∷_ 101 (List._∷_ 101 (List._∷_ 116 (List._∷_ 58 (List._∷_ 58 (List._∷_ 69 (List._∷_ 110 (List._∷_ 116 (List._∷_ 114 (List._∷_ 121 (List._∷_ 78 (List._∷_ 117 (List._∷_ 109 (List._∷_ 98 (List._∷_ 101 (List._∷_ 114 List.[])))))))))))))))))) (Syntax.tcons (Syntax.tyInt Syntax.w8) Syntax.tnil)) Syntax.tnil) (Syntax.ttcons Syntax.tnil Syntax.ttnil))))))) Syntax.tnil) (Syntax.ttcons Syntax.tnil (Syntax.ttcons Syntax.tnil (Syntax.ttcons (Syntax.tcons (Syntax.tyInt Syntax.w8) Syntax.tnil) Syntax.ttnil)))))) (List._∷_ (1, Rows'.sslice (Referent.rtF (Referent.fInt Syntax.w8)) (Syntax.tyRef (Syntax.named 0) Syntax.imm (Syntax.tyInt Syntax.w8)) 0) (List._∷_ (2, Rows'.sslice (Referent.rtF Referent.fBool) (Syntax.tyRef (Syntax.named 1) Syntax.imm Syntax.tyBool) 1) (List._∷_ (3, Rows'.sslice (Referent.rtF (Referent.fInt Syntax.w64)) (Syntax.tyRef (Syntax.named 2) Syntax.imm (Syntax.tyInt Syntax.w64)) 2) (List._∷_ (4, Rows'.sslice (Referent.rtF (Referent.fInt Syntax.w64)) (Syntax.tyRef (Syntax.named 3) Syntax.imm (Syntax.tyInt Syntax.w64)) 3) (List._∷_ (5, Rows'.sslice (Struct″.row StepT.the-type) (Syntax.tyRef (Syntax.named 4) Syntax.imm (Memory″.pointee ((Struct″.row StepT.the-type) .written))) 4) (List._∷_ (6, Rows'.sc-here (Row.sInt Syntax.w64)) (List._∷_ (7, Rows.arr-owed (Referent.rtF Referent.fBool) 256 5) (List._∷_ (8, Rows.arrF (Referent.rtF (Referent.fInt Syntax.w64)) 2 0) (List._∷_ (9, Rows'.any-gone (Syntax.tyInt Syntax.w64)) (List._∷_ (10, Rows'.any-gone (Syntax.tyInt Syntax.w64)) (List._∷_ (11, Rows'.any-gone Syntax.tyBool) (List._∷_ (12, Rows'.any-gone (Syntax.tyInt Syntax.w8)) (List._∷_ (13, Rows'.any-gone Syntax.tyUnit) (List._∷_ (14, Relend.msptr (Referent.rtF Referent.fBool) (Syntax.tyRef Syntax.erased Syntax.mut (Syntax.tyArray Syntax.tyBool 256)) 5) (List._∷_ (15, Rows'.any-gone (Syntax.tyStruct (List._∷_ 38 (List._∷_ 91 (List._∷_ 93 List.[]))) (Syntax.tcons (Syntax.tyRef Syntax.erased Syntax.mut Syntax.tyBool) (Syntax.tcons (Syntax.tyInt Syntax.w64) Syntax.tnil)))) List.[])))))))))))))))
 
 abbrev pub t16 : List.List Row.Entry
-t16 = List._∷_ (0, Rows'.any-gone (Syntax.tyEnum (List._∷_ 115 (List._∷_ 117 (List._∷_ 114 (List._∷_ 118 (List._∷_ 101 (List._∷_ 121 (List._∷_ 111 (List._∷_ 114 (List._∷_ 58 (List._∷_ 58 (List._∷_ 83 (List._∷_ 117 (List._∷_ 114 (List._∷_ 118 (List._∷_ 101 (List._∷_ 121 List.[])))))))))))))))) (Syntax.ttcons (Syntax.tcons (Syntax.tyEnum (List._∷_ 114 (List._∷_ 101 (List._∷_ 102 (List._∷_ 117 (List._∷_ 115 (List._∷_ 97 (List._∷_ 108 (List._∷_ 58 (List._∷_ 58 (List._∷_ 82 (List._∷_ 101 (List._∷_ 102 (List._∷_ 117 (List._∷_ 115 (List._∷_ 97 (List._∷_ 108 List.[])))))))))))))))) (Syntax.ttcons Syntax.tnil (Syntax.ttcons Syntax.tnil (Syntax.ttcons Syntax.tnil (Syntax.ttcons (Syntax.tcons (Syntax.tyStruct (List._∷_ 115 (List._∷_ 104 (List._∷_ 101 (List._∷_ 101 (List._∷_ 116 (List._∷_ 58 (List._∷_ 58 (List._∷_ 84 (List._∷_ 101 (List._∷_ 114 (List._∷_ 109 (List._∷_ 78 (List._∷_ 117 (List._∷_ 109 (List._∷_ 98 (List._∷_ 101 (List._∷_ 114 List.[]))))))))))))))))) (Syntax.tcons (Syntax.tyInt Syntax.w8) Syntax.tnil)) Syntax.tnil) (Syntax.ttcons (Syntax.tcons (Syntax.tyStruct (List._∷_ 115 (List._∷_ 104 (List._∷_ 101 (List._∷_ 101 (List._∷_ 116 (List._∷_ 58 (List._∷_ 58 (List._∷_ 69 (List._∷_ 110 (List._∷_ 116 (List._∷_ 114 (List._∷_ 121 (List._∷_ 78 (List._∷_ 117 (List._∷_ 109 (List._∷_ 98 (List._∷_ 101 (List._∷_ 114 List.[])))))))))))))))))) (Syntax.tcons (Syntax.tyInt Syntax.w8) Syntax.tnil)) Syntax.tnil) (Syntax.ttcons Syntax.tnil Syntax.ttnil))))))) Syntax.tnil) (Syntax.ttcons Syntax.tnil (Syntax.ttcons Syntax.tnil (Syntax.ttcons (Syntax.tcons (Syntax.tyInt Syntax.w8) Syntax.tnil) Syntax.ttnil)))))) (List._∷_ (1, Rows'.sslice (Referent.rtF (Referent.fInt Syntax.w8)) (Syntax.tyRef (Syntax.named 0) Syntax.imm (Syntax.tyInt Syntax.w8)) 0) (List._∷_ (2, Rows'.sslice (Referent.rtF Referent.fBool) (Syntax.tyRef (Syntax.named 1) Syntax.imm Syntax.tyBool) 1) (List._∷_ (3, Rows'.sslice (Referent.rtF (Referent.fInt Syntax.w64)) (Syntax.tyRef (Syntax.named 2) Syntax.imm (Syntax.tyInt Syntax.w64)) 2) (List._∷_ (4, Rows'.sslice (Referent.rtF (Referent.fInt Syntax.w64)) (Syntax.tyRef (Syntax.named 3) Syntax.imm (Syntax.tyInt Syntax.w64)) 3) (List._∷_ (5, Rows'.sslice (Struct″.row StepT.the-type) (Syntax.tyRef (Syntax.named 4) Syntax.imm (Memory″.pointee ((Struct″.row StepT.the-type) .written))) 4) (List._∷_ (6, Rows'.sc-here (Row.sInt Syntax.w64)) (List._∷_ (7, Rows.arr-owed (Referent.rtF Referent.fBool) 256 5) (List._∷_ (8, Rows.arrF (Referent.rtF Referent.fBool) 256 0) (List._∷_ (9, Rows'.any-gone (Syntax.tyInt Syntax.w64)) (List._∷_ (10, Rows'.any-gone (Syntax.tyInt Syntax.w64)) (List._∷_ (11, Rows'.any-gone Syntax.tyBool) (List._∷_ (12, Rows'.any-gone (Syntax.tyInt Syntax.w8)) (List._∷_ (13, Rows'.any-gone Syntax.tyUnit) (List._∷_ (14, Rows'.any-gone (Syntax.tyRef Syntax.erased Syntax.mut (Syntax.tyArray Syntax.tyBool 256))) (List._∷_ (15, Mut.mslice (Referent.rtF Referent.fBool) (Syntax.tyRef Syntax.erased Syntax.mut Syntax.tyBool) 5) List.[])))))))))))))))
+t16 = List._∷_ (0, Rows'.any-gone (Syntax.tyEnum (List._∷_ 115 (List._∷_ 117 (List._∷_ 114 (List._∷_ 118 (List._∷_ 101 (List._∷_ 121 (List._∷_ 111 (List._∷_ 114 (List._∷_ 58 (List._∷_ 58 (List._∷_ 83 (List._∷_ 117 (List._∷_ 114 (List._∷_ 118 (List._∷_ 101 (List._∷_ 121 List.[])))))))))))))))) (Syntax.ttcons (Syntax.tcons (Syntax.tyEnum (List._∷_ 114 (List._∷_ 101 (List._∷_ 102 (List._∷_ 117 (List._∷_ 115 (List._∷_ 97 (List._∷_ 108 (List._∷_ 58 (List._∷_ 58 (List._∷_ 82 (List._∷_ 101 (List._∷_ 102 (List._∷_ 117 (List._∷_ 115 (List._∷_ 97 (List._∷_ 108 List.[])))))))))))))))) (Syntax.ttcons Syntax.tnil (Syntax.ttcons Syntax.tnil (Syntax.ttcons Syntax.tnil (Syntax.ttcons (Syntax.tcons (Syntax.tyStruct (List._∷_ 115 (List._∷_ 104 (List._∷_ 101 (List._∷_ 101 (List._∷_ 116 (List._∷_ 58 (List._∷_ 58 (List._∷_ 84 (List._∷_ 101 (List._∷_ 114 (List._∷_ 109 (List._∷_ 78 (List._∷_ 117 (List._∷_ 109 (List._∷_ 98 (List._∷_ 101 (List._∷_ 114 List.[]))))))))))))))))) (Syntax.tcons (Syntax.tyInt Syntax.w8) Syntax.tnil)) Syntax.tnil) (Syntax.ttcons (Syntax.tcons (Syntax.tyStruct (List._∷_ 115 (List._∷_ 104 (List._∷_ 101 (List._∷_ 101 (List._∷_ 116 (List._∷_ 58 (List._∷_ 58 (List._∷_ 69 (List._∷_ 110 (List._∷_ 116 (List._∷_ 114 (List._∷_ 121 (List._∷_ 78 (List._∷_ 117 (List._∷_ 109 (List._∷_ 98 (List._∷_ 101 (List._∷_ 114 List.[])))))))))))))))))) (Syntax.tcons (Syntax.tyInt Syntax.w8) Syntax.tnil)) Syntax.tnil) (Syntax.ttcons Syntax.tnil Syntax.ttnil))))))) Syntax.tnil) (Syntax.ttcons Syntax.tnil (Syntax.ttcons Syntax.tnil (Syntax.ttcons (Syntax.tcons (Syntax.tyInt Syntax.w8) Syntax.tnil) Syntax.ttnil)))))) (List._∷_ (1, Rows'.sslice (Referent.rtF (Referent.fInt Syntax.w8)) (Syntax.tyRef (Syntax.named 0) Syntax.imm (Syntax.tyInt Syntax.w8)) 0) (List._∷_ (2, Rows'.sslice (Referent.rtF Referent.fBool) (Syntax.tyRef (Syntax.named 1) Syntax.imm Syntax.tyBool) 1) (List._∷_ (3, Rows'.sslice (Referent.rtF (Referent.fInt Syntax.w64)) (Syntax.tyRef (Syntax.named 2) Syntax.imm (Syntax.tyInt Syntax.w64)) 2) (List._∷_ (4, Rows'.sslice (Referent.rtF (Referent.fInt Syntax.w64)) (Syntax.tyRef (Syntax.named 3) Syntax.imm (Syntax.tyInt Syntax.w64)) 3) (List._∷_ (5, Rows'.sslice (Struct″.row StepT.the-type) (Syntax.tyRef (Syntax.named 4) Syntax.imm (Memory″.pointee ((Struct″.row StepT.the-type) .written))) 4) (List._∷_ (6, Rows'.sc-here (Row.sInt Syntax.w64)) (List._∷_ (7, Rows.arr-owed (Referent.rtF Referent.fBool) 256 5) (List._∷_ (8, Rows.arrF (Referent.rtF (Referent.fInt Syntax.w64)) 2 0) (List._∷_ (9, Rows'.any-gone (Syntax.tyInt Syntax.w64)) (List._∷_ (10, Rows'.any-gone (Syntax.tyInt Syntax.w64)) (List._∷_ (11, Rows'.any-gone Syntax.tyBool) (List._∷_ (12, Rows'.any-gone (Syntax.tyInt Syntax.w8)) (List._∷_ (13, Rows'.any-gone Syntax.tyUnit) (List._∷_ (14, Rows'.any-gone (Syntax.tyRef Syntax.erased Syntax.mut (Syntax.tyArray Syntax.tyBool 256))) (List._∷_ (15, Mut.mslice (Referent.rtF Referent.fBool) (Syntax.tyRef Syntax.erased Syntax.mut Syntax.tyBool) 5) List.[])))))))))))))))
 
 abbrev pub t17 : List.List Row.Entry
-t17 = List._∷_ (0, Rows'.any-gone (Syntax.tyEnum (List._∷_ 115 (List._∷_ 117 (List._∷_ 114 (List._∷_ 118 (List._∷_ 101 (List._∷_ 121 (List._∷_ 111 (List._∷_ 114 (List._∷_ 58 (List._∷_ 58 (List._∷_ 83 (List._∷_ 117 (List._∷_ 114 (List._∷_ 118 (List._∷_ 101 (List._∷_ 121 List.[])))))))))))))))) (Syntax.ttcons (Syntax.tcons (Syntax.tyEnum (List._∷_ 114 (List._∷_ 101 (List._∷_ 102 (List._∷_ 117 (List._∷_ 115 (List._∷_ 97 (List._∷_ 108 (List._∷_ 58 (List._∷_ 58 (List._∷_ 82 (List._∷_ 101 (List._∷_ 102 (List._∷_ 117 (List._∷_ 115 (List._∷_ 97 (List._∷_ 108 List.[])))))))))))))))) (Syntax.ttcons Syntax.tnil (Syntax.ttcons Syntax.tnil (Syntax.ttcons Syntax.tnil (Syntax.ttcons (Syntax.tcons (Syntax.tyStruct (List._∷_ 115 (List._∷_ 104 (List._∷_ 101 (List._∷_ 101 (List._∷_ 116 (List._∷_ 58 (List._∷_ 58 (List._∷_ 84 (List._∷_ 101 (List._∷_ 114 (List._∷_ 109 (List._∷_ 78 (List._∷_ 117 (List._∷_ 109 (List._∷_ 98 (List._∷_ 101 (List._∷_ 114 List.[]))))))))))))))))) (Syntax.tcons (Syntax.tyInt Syntax.w8) Syntax.tnil)) Syntax.tnil) (Syntax.ttcons (Syntax.tcons (Syntax.tyStruct (List._∷_ 115 (List._∷_ 104 (List._∷_ 101 (List._∷_ 101 (List._∷_ 116 (List._∷_ 58 (List._∷_ 58 (List._∷_ 69 (List._∷_ 110 (List._∷_ 116 (List._∷_ 114 (List._∷_ 121 (List._∷_ 78 (List._∷_ 117 (List._∷_ 109 (List._∷_ 98 (List._∷_ 101 (List._∷_ 114 List.[])))))))))))))))))) (Syntax.tcons (Syntax.tyInt Syntax.w8) Syntax.tnil)) Syntax.tnil) (Syntax.ttcons Syntax.tnil Syntax.ttnil))))))) Syntax.tnil) (Syntax.ttcons Syntax.tnil (Syntax.ttcons Syntax.tnil (Syntax.ttcons (Syntax.tcons (Syntax.tyInt Syntax.w8) Syntax.tnil) Syntax.ttnil)))))) (List._∷_ (1, Rows'.sslice (Referent.rtF (Referent.fInt Syntax.w8)) (Syntax.tyRef (Syntax.named 0) Syntax.imm (Syntax.tyInt Syntax.w8)) 0) (List._∷_ (2, Rows'.sslice (Referent.rtF Referent.fBool) (Syntax.tyRef (Syntax.named 1) Syntax.imm Syntax.tyBool) 1) (List._∷_ (3, Rows'.sslice (Referent.rtF (Referent.fInt Syntax.w64)) (Syntax.tyRef (Syntax.named 2) Syntax.imm (Syntax.tyInt Syntax.w64)) 2) (List._∷_ (4, Rows'.sslice (Referent.rtF (Referent.fInt Syntax.w64)) (Syntax.tyRef (Syntax.named 3) Syntax.imm (Syntax.tyInt Syntax.w64)) 3) (List._∷_ (5, Rows'.sslice (Struct″.row StepT.the-type) (Syntax.tyRef (Syntax.named 4) Syntax.imm (Memory″.pointee ((Struct″.row StepT.the-type) .written))) 4) (List._∷_ (6, Rows'.sc-here (Row.sInt Syntax.w64)) (List._∷_ (7, Rows.arr-owed (Referent.rtF Referent.fBool) 256 5) (List._∷_ (8, Rows.arr-owed (Referent.rtF Referent.fBool) 256 6) (List._∷_ (9, Rows'.any-gone (Syntax.tyInt Syntax.w64)) (List._∷_ (10, Rows'.any-gone (Syntax.tyInt Syntax.w64)) (List._∷_ (11, Rows'.any-gone Syntax.tyBool) (List._∷_ (12, Rows'.any-gone (Syntax.tyInt Syntax.w8)) (List._∷_ (13, Rows'.any-gone Syntax.tyUnit) (List._∷_ (14, Rows'.any-gone (Syntax.tyRef Syntax.erased Syntax.mut (Syntax.tyArray Syntax.tyBool 256))) (List._∷_ (15, Mut.mslice (Referent.rtF Referent.fBool) (Syntax.tyRef Syntax.erased Syntax.mut Syntax.tyBool) 5) List.[])))))))))))))))
+t17 = List._∷_ (0, Rows'.any-gone (Syntax.tyEnum (List._∷_ 115 (List._∷_ 117 (List._∷_ 114 (List._∷_ 118 (List._∷_ 101 (List._∷_ 121 (List._∷_ 111 (List._∷_ 114 (List._∷_ 58 (List._∷_ 58 (List._∷_ 83 (List._∷_ 117 (List._∷_ 114 (List._∷_ 118 (List._∷_ 101 (List._∷_ 121 List.[])))))))))))))))) (Syntax.ttcons (Syntax.tcons (Syntax.tyEnum (List._∷_ 114 (List._∷_ 101 (List._∷_ 102 (List._∷_ 117 (List._∷_ 115 (List._∷_ 97 (List._∷_ 108 (List._∷_ 58 (List._∷_ 58 (List._∷_ 82 (List._∷_ 101 (List._∷_ 102 (List._∷_ 117 (List._∷_ 115 (List._∷_ 97 (List._∷_ 108 List.[])))))))))))))))) (Syntax.ttcons Syntax.tnil (Syntax.ttcons Syntax.tnil (Syntax.ttcons Syntax.tnil (Syntax.ttcons (Syntax.tcons (Syntax.tyStruct (List._∷_ 115 (List._∷_ 104 (List._∷_ 101 (List._∷_ 101 (List._∷_ 116 (List._∷_ 58 (List._∷_ 58 (List._∷_ 84 (List._∷_ 101 (List._∷_ 114 (List._∷_ 109 (List._∷_ 78 (List._∷_ 117 (List._∷_ 109 (List._∷_ 98 (List._∷_ 101 (List._∷_ 114 List.[]))))))))))))))))) (Syntax.tcons (Syntax.tyInt Syntax.w8) Syntax.tnil)) Syntax.tnil) (Syntax.ttcons (Syntax.tcons (Syntax.tyStruct (List._∷_ 115 (List._∷_ 104 (List._∷_ 101 (List._∷_ 101 (List._∷_ 116 (List._∷_ 58 (List._∷_ 58 (List._∷_ 69 (List._∷_ 110 (List._∷_ 116 (List._∷_ 114 (List._∷_ 121 (List._∷_ 78 (List._∷_ 117 (List._∷_ 109 (List._∷_ 98 (List._∷_ 101 (List._∷_ 114 List.[])))))))))))))))))) (Syntax.tcons (Syntax.tyInt Syntax.w8) Syntax.tnil)) Syntax.tnil) (Syntax.ttcons Syntax.tnil Syntax.ttnil))))))) Syntax.tnil) (Syntax.ttcons Syntax.tnil (Syntax.ttcons Syntax.tnil (Syntax.ttcons (Syntax.tcons (Syntax.tyInt Syntax.w8) Syntax.tnil) Syntax.ttnil)))))) (List._∷_ (1, Rows'.sslice (Referent.rtF (Referent.fInt Syntax.w8)) (Syntax.tyRef (Syntax.named 0) Syntax.imm (Syntax.tyInt Syntax.w8)) 0) (List._∷_ (2, Rows'.sslice (Referent.rtF Referent.fBool) (Syntax.tyRef (Syntax.named 1) Syntax.imm Syntax.tyBool) 1) (List._∷_ (3, Rows'.sslice (Referent.rtF (Referent.fInt Syntax.w64)) (Syntax.tyRef (Syntax.named 2) Syntax.imm (Syntax.tyInt Syntax.w64)) 2) (List._∷_ (4, Rows'.sslice (Referent.rtF (Referent.fInt Syntax.w64)) (Syntax.tyRef (Syntax.named 3) Syntax.imm (Syntax.tyInt Syntax.w64)) 3) (List._∷_ (5, Rows'.sslice (Struct″.row StepT.the-type) (Syntax.tyRef (Syntax.named 4) Syntax.imm (Memory″.pointee ((Struct″.row StepT.the-type) .written))) 4) (List._∷_ (6, Rows'.sc-here (Row.sInt Syntax.w64)) (List._∷_ (7, Rows.arr-owed (Referent.rtF Referent.fBool) 256 5) (List._∷_ (8, Rows.arr-owed (Referent.rtF (Referent.fInt Syntax.w64)) 2 6) (List._∷_ (9, Rows'.any-gone (Syntax.tyInt Syntax.w64)) (List._∷_ (10, Rows'.any-gone (Syntax.tyInt Syntax.w64)) (List._∷_ (11, Rows'.any-gone Syntax.tyBool) (List._∷_ (12, Rows'.any-gone (Syntax.tyInt Syntax.w8)) (List._∷_ (13, Rows'.any-gone Syntax.tyUnit) (List._∷_ (14, Rows'.any-gone (Syntax.tyRef Syntax.erased Syntax.mut (Syntax.tyArray Syntax.tyBool 256))) (List._∷_ (15, Mut.mslice (Referent.rtF Referent.fBool) (Syntax.tyRef Syntax.erased Syntax.mut Syntax.tyBool) 5) List.[])))))))))))))))
 
 abbrev pub t18 : List.List Row.Entry
-t18 = List._∷_ (16, Relend.msptr (Referent.rtF Referent.fBool) (Syntax.tyRef Syntax.erased Syntax.mut (Syntax.tyArray Syntax.tyBool 256)) 6) (List._∷_ (17, Rows'.any-gone (Syntax.tyStruct (List._∷_ 38 (List._∷_ 91 (List._∷_ 93 List.[]))) (Syntax.tcons (Syntax.tyRef Syntax.erased Syntax.mut Syntax.tyBool) (Syntax.tcons (Syntax.tyInt Syntax.w64) Syntax.tnil)))) (List._∷_ (18, Rows'.any-gone Syntax.tyBool) (List._∷_ (19, Rows'.any-gone (Syntax.tyRef Syntax.erased Syntax.imm (Syntax.tyArray Syntax.tyBool 256))) (List._∷_ (20, Rows'.any-gone (Syntax.tyStruct (List._∷_ 38 (List._∷_ 91 (List._∷_ 93 List.[]))) (Syntax.tcons (Syntax.tyRef Syntax.erased Syntax.imm Syntax.tyBool) (Syntax.tcons (Syntax.tyInt Syntax.w64) Syntax.tnil)))) (List._∷_ (21, Rows'.any-gone (Syntax.tyEnum (List._∷_ 115 (List._∷_ 117 (List._∷_ 114 (List._∷_ 118 (List._∷_ 101 (List._∷_ 121 (List._∷_ 111 (List._∷_ 114 (List._∷_ 58 (List._∷_ 58 (List._∷_ 83 (List._∷_ 117 (List._∷_ 114 (List._∷_ 118 (List._∷_ 101 (List._∷_ 121 List.[])))))))))))))))) (Syntax.ttcons (Syntax.tcons (Syntax.tyEnum (List._∷_ 114 (List._∷_ 101 (List._∷_ 102 (List._∷_ 117 (List._∷_ 115 (List._∷_ 97 (List._∷_ 108 (List._∷_ 58 (List._∷_ 58 (List._∷_ 82 (List._∷_ 101 (List._∷_ 102 (List._∷_ 117 (List._∷_ 115 (List._∷_ 97 (List._∷_ 108 List.[])))))))))))))))) (Syntax.ttcons Syntax.tnil (Syntax.ttcons Syntax.tnil (Syntax.ttcons Syntax.tnil (Syntax.ttcons (Syntax.tcons (Syntax.tyStruct (List._∷_ 115 (List._∷_ 104 (List._∷_ 101 (List._∷_ 101 (List._∷_ 116 (List._∷_ 58 (List._∷_ 58 (List._∷_ 84 (List._∷_ 101 (List._∷_ 114 (List._∷_ 109 (List._∷_ 78 (List._∷_ 117 (List._∷_ 109 (List._∷_ 98 (List._∷_ 101 (List._∷_ 114 List.[]))))))))))))))))) (Syntax.tcons (Syntax.tyInt Syntax.w8) Syntax.tnil)) Syntax.tnil) (Syntax.ttcons (Syntax.tcons (Syntax.tyStruct (List._∷_ 115 (List._∷_ 104 (List._∷_ 101 (List._∷_ 101 (List._∷_ 116 (List._∷_ 58 (List._∷_ 58 (List._∷_ 69 (List._∷_ 110 (List._∷_ 116 (List._∷_ 114 (List._∷_ 121 (List._∷_ 78 (List._∷_ 117 (List._∷_ 109 (List._∷_ 98 (List._∷_ 101 (List._∷_ 114 List.[])))))))))))))))))) (Syntax.tcons (Syntax.tyInt Syntax.w8) Syntax.tnil)) Syntax.tnil) (Syntax.ttcons Syntax.tnil Syntax.ttnil))))))) Syntax.tnil) (Syntax.ttcons Syntax.tnil (Syntax.ttcons Syntax.tnil (Syntax.ttcons (Syntax.tcons (Syntax.tyInt Syntax.w8) Syntax.tnil) Syntax.ttnil)))))) (List._∷_ (22, Rows'.any-gone (Syntax.tyInt Syntax.w8)) List.[]))))))
+t18 = List._∷_ (16, Relend.msptr (Referent.rtF (Referent.fInt Syntax.w64)) (Syntax.tyRef Syntax.erased Syntax.mut (Syntax.tyArray (Syntax.tyInt Syntax.w64) 2)) 6) (List._∷_ (17, Rows'.any-gone (Syntax.tyStruct (List._∷_ 38 (List._∷_ 91 (List._∷_ 93 List.[]))) (Syntax.tcons (Syntax.tyRef Syntax.erased Syntax.mut (Syntax.tyInt Syntax.w64)) (Syntax.tcons (Syntax.tyInt Syntax.w64) Syntax.tnil)))) (List._∷_ (18, Rows'.any-gone Syntax.tyBool) (List._∷_ (19, Rows'.any-gone (Syntax.tyRef Syntax.erased Syntax.imm (Syntax.tyArray Syntax.tyBool 256))) (List._∷_ (20, Rows'.any-gone (Syntax.tyStruct (List._∷_ 38 (List._∷_ 91 (List._∷_ 93 List.[]))) (Syntax.tcons (Syntax.tyRef Syntax.erased Syntax.imm Syntax.tyBool) (Syntax.tcons (Syntax.tyInt Syntax.w64) Syntax.tnil)))) (List._∷_ (21, Rows'.any-gone (Syntax.tyEnum (List._∷_ 115 (List._∷_ 117 (List._∷_ 114 (List._∷_ 118 (List._∷_ 101 (List._∷_ 121 (List._∷_ 111 (List._∷_ 114 (List._∷_ 58 (List._∷_ 58 (List._∷_ 83 (List._∷_ 117 (List._∷_ 114 (List._∷_ 118 (List._∷_ 101 (List._∷_ 121 List.[])))))))))))))))) (Syntax.ttcons (Syntax.tcons (Syntax.tyEnum (List._∷_ 114 (List._∷_ 101 (List._∷_ 102 (List._∷_ 117 (List._∷_ 115 (List._∷_ 97 (List._∷_ 108 (List._∷_ 58 (List._∷_ 58 (List._∷_ 82 (List._∷_ 101 (List._∷_ 102 (List._∷_ 117 (List._∷_ 115 (List._∷_ 97 (List._∷_ 108 List.[])))))))))))))))) (Syntax.ttcons Syntax.tnil (Syntax.ttcons Syntax.tnil (Syntax.ttcons Syntax.tnil (Syntax.ttcons (Syntax.tcons (Syntax.tyStruct (List._∷_ 115 (List._∷_ 104 (List._∷_ 101 (List._∷_ 101 (List._∷_ 116 (List._∷_ 58 (List._∷_ 58 (List._∷_ 84 (List._∷_ 101 (List._∷_ 114 (List._∷_ 109 (List._∷_ 78 (List._∷_ 117 (List._∷_ 109 (List._∷_ 98 (List._∷_ 101 (List._∷_ 114 List.[]))))))))))))))))) (Syntax.tcons (Syntax.tyInt Syntax.w8) Syntax.tnil)) Syntax.tnil) (Syntax.ttcons (Syntax.tcons (Syntax.tyStruct (List._∷_ 115 (List._∷_ 104 (List._∷_ 101 (List._∷_ 101 (List._∷_ 116 (List._∷_ 58 (List._∷_ 58 (List._∷_ 69 (List._∷_ 110 (List._∷_ 116 (List._∷_ 114 (List._∷_ 121 (List._∷_ 78 (List._∷_ 117 (List._∷_ 109 (List._∷_ 98 (List._∷_ 101 (List._∷_ 114 List.[])))))))))))))))))) (Syntax.tcons (Syntax.tyInt Syntax.w8) Syntax.tnil)) Syntax.tnil) (Syntax.ttcons Syntax.tnil Syntax.ttnil))))))) Syntax.tnil) (Syntax.ttcons Syntax.tnil (Syntax.ttcons Syntax.tnil (Syntax.ttcons (Syntax.tcons (Syntax.tyInt Syntax.w8) Syntax.tnil) Syntax.ttnil)))))) (List._∷_ (22, Rows'.any-gone (Syntax.tyInt Syntax.w8)) List.[]))))))
 
 abbrev pub t19 : List.List Row.Entry
-t19 = List._∷_ (16, Rows'.any-gone (Syntax.tyRef Syntax.erased Syntax.mut (Syntax.tyArray Syntax.tyBool 256))) (List._∷_ (17, Mut.mslice (Referent.rtF Referent.fBool) (Syntax.tyRef Syntax.erased Syntax.mut Syntax.tyBool) 6) (List._∷_ (18, Rows'.any-gone Syntax.tyBool) (List._∷_ (19, Rows'.any-gone (Syntax.tyRef Syntax.erased Syntax.imm (Syntax.tyArray Syntax.tyBool 256))) (List._∷_ (20, Rows'.any-gone (Syntax.tyStruct (List._∷_ 38 (List._∷_ 91 (List._∷_ 93 List.[]))) (Syntax.tcons (Syntax.tyRef Syntax.erased Syntax.imm Syntax.tyBool) (Syntax.tcons (Syntax.tyInt Syntax.w64) Syntax.tnil)))) (List._∷_ (21, Rows'.any-gone (Syntax.tyEnum (List._∷_ 115 (List._∷_ 117 (List._∷_ 114 (List._∷_ 118 (List._∷_ 101 (List._∷_ 121 (List._∷_ 111 (List._∷_ 114 (List._∷_ 58 (List._∷_ 58 (List._∷_ 83 (List._∷_ 117 (List._∷_ 114 (List._∷_ 118 (List._∷_ 101 (List._∷_ 121 List.[])))))))))))))))) (Syntax.ttcons (Syntax.tcons (Syntax.tyEnum (List._∷_ 114 (List._∷_ 101 (List._∷_ 102 (List._∷_ 117 (List._∷_ 115 (List._∷_ 97 (List._∷_ 108 (List._∷_ 58 (List._∷_ 58 (List._∷_ 82 (List._∷_ 101 (List._∷_ 102 (List._∷_ 117 (List._∷_ 115 (List._∷_ 97 (List._∷_ 108 List.[])))))))))))))))) (Syntax.ttcons Syntax.tnil (Syntax.ttcons Syntax.tnil (Syntax.ttcons Syntax.tnil (Syntax.ttcons (Syntax.tcons (Syntax.tyStruct (List._∷_ 115 (List._∷_ 104 (List._∷_ 101 (List._∷_ 101 (List._∷_ 116 (List._∷_ 58 (List._∷_ 58 (List._∷_ 84 (List._∷_ 101 (List._∷_ 114 (List._∷_ 109 (List._∷_ 78 (List._∷_ 117 (List._∷_ 109 (List._∷_ 98 (List._∷_ 101 (List._∷_ 114 List.[]))))))))))))))))) (Syntax.tcons (Syntax.tyInt Syntax.w8) Syntax.tnil)) Syntax.tnil) (Syntax.ttcons (Syntax.tcons (Syntax.tyStruct (List._∷_ 115 (List._∷_ 104 (List._∷_ 101 (List._∷_ 101 (List._∷_ 116 (List._∷_ 58 (List._∷_ 58 (List._∷_ 69 (List._∷_ 110 (List._∷_ 116 (List._∷_ 114 (List._∷_ 121 (List._∷_ 78 (List._∷_ 117 (List._∷_ 109 (List._∷_ 98 (List._∷_ 101 (List._∷_ 114 List.[])))))))))))))))))) (Syntax.tcons (Syntax.tyInt Syntax.w8) Syntax.tnil)) Syntax.tnil) (Syntax.ttcons Syntax.tnil Syntax.ttnil))))))) Syntax.tnil) (Syntax.ttcons Syntax.tnil (Syntax.ttcons Syntax.tnil (Syntax.ttcons (Syntax.tcons (Syntax.tyInt Syntax.w8) Syntax.tnil) Syntax.ttnil)))))) (List._∷_ (22, Rows'.any-gone (Syntax.tyInt Syntax.w8)) List.[]))))))
+t19 = List._∷_ (16, Rows'.any-gone (Syntax.tyRef Syntax.erased Syntax.mut (Syntax.tyArray (Syntax.tyInt Syntax.w64) 2))) (List._∷_ (17, Mut.mslice (Referent.rtF (Referent.fInt Syntax.w64)) (Syntax.tyRef Syntax.erased Syntax.mut (Syntax.tyInt Syntax.w64)) 6) (List._∷_ (18, Rows'.any-gone Syntax.tyBool) (List._∷_ (19, Rows'.any-gone (Syntax.tyRef Syntax.erased Syntax.imm (Syntax.tyArray Syntax.tyBool 256))) (List._∷_ (20, Rows'.any-gone (Syntax.tyStruct (List._∷_ 38 (List._∷_ 91 (List._∷_ 93 List.[]))) (Syntax.tcons (Syntax.tyRef Syntax.erased Syntax.imm Syntax.tyBool) (Syntax.tcons (Syntax.tyInt Syntax.w64) Syntax.tnil)))) (List._∷_ (21, Rows'.any-gone (Syntax.tyEnum (List._∷_ 115 (List._∷_ 117 (List._∷_ 114 (List._∷_ 118 (List._∷_ 101 (List._∷_ 121 (List._∷_ 111 (List._∷_ 114 (List._∷_ 58 (List._∷_ 58 (List._∷_ 83 (List._∷_ 117 (List._∷_ 114 (List._∷_ 118 (List._∷_ 101 (List._∷_ 121 List.[])))))))))))))))) (Syntax.ttcons (Syntax.tcons (Syntax.tyEnum (List._∷_ 114 (List._∷_ 101 (List._∷_ 102 (List._∷_ 117 (List._∷_ 115 (List._∷_ 97 (List._∷_ 108 (List._∷_ 58 (List._∷_ 58 (List._∷_ 82 (List._∷_ 101 (List._∷_ 102 (List._∷_ 117 (List._∷_ 115 (List._∷_ 97 (List._∷_ 108 List.[])))))))))))))))) (Syntax.ttcons Syntax.tnil (Syntax.ttcons Syntax.tnil (Syntax.ttcons Syntax.tnil (Syntax.ttcons (Syntax.tcons (Syntax.tyStruct (List._∷_ 115 (List._∷_ 104 (List._∷_ 101 (List._∷_ 101 (List._∷_ 116 (List._∷_ 58 (List._∷_ 58 (List._∷_ 84 (List._∷_ 101 (List._∷_ 114 (List._∷_ 109 (List._∷_ 78 (List._∷_ 117 (List._∷_ 109 (List._∷_ 98 (List._∷_ 101 (List._∷_ 114 List.[]))))))))))))))))) (Syntax.tcons (Syntax.tyInt Syntax.w8) Syntax.tnil)) Syntax.tnil) (Syntax.ttcons (Syntax.tcons (Syntax.tyStruct (List._∷_ 115 (List._∷_ 104 (List._∷_ 101 (List._∷_ 101 (List._∷_ 116 (List._∷_ 58 (List._∷_ 58 (List._∷_ 69 (List._∷_ 110 (List._∷_ 116 (List._∷_ 114 (List._∷_ 121 (List._∷_ 78 (List._∷_ 117 (List._∷_ 109 (List._∷_ 98 (List._∷_ 101 (List._∷_ 114 List.[])))))))))))))))))) (Syntax.tcons (Syntax.tyInt Syntax.w8) Syntax.tnil)) Syntax.tnil) (Syntax.ttcons Syntax.tnil Syntax.ttnil))))))) Syntax.tnil) (Syntax.ttcons Syntax.tnil (Syntax.ttcons Syntax.tnil (Syntax.ttcons (Syntax.tcons (Syntax.tyInt Syntax.w8) Syntax.tnil) Syntax.ttnil)))))) (List._∷_ (22, Rows'.any-gone (Syntax.tyInt Syntax.w8)) List.[]))))))
 
 abbrev pub t20 : List.List Row.Entry
-t20 = List._∷_ (0, Rows'.any-gone (Syntax.tyEnum (List._∷_ 115 (List._∷_ 117 (List._∷_ 114 (List._∷_ 118 (List._∷_ 101 (List._∷_ 121 (List._∷_ 111 (List._∷_ 114 (List._∷_ 58 (List._∷_ 58 (List._∷_ 83 (List._∷_ 117 (List._∷_ 114 (List._∷_ 118 (List._∷_ 101 (List._∷_ 121 List.[])))))))))))))))) (Syntax.ttcons (Syntax.tcons (Syntax.tyEnum (List._∷_ 114 (List._∷_ 101 (List._∷_ 102 (List._∷_ 117 (List._∷_ 115 (List._∷_ 97 (List._∷_ 108 (List._∷_ 58 (List._∷_ 58 (List._∷_ 82 (List._∷_ 101 (List._∷_ 102 (List._∷_ 117 (List._∷_ 115 (List._∷_ 97 (List._∷_ 108 List.[])))))))))))))))) (Syntax.ttcons Syntax.tnil (Syntax.ttcons Syntax.tnil (Syntax.ttcons Syntax.tnil (Syntax.ttcons (Syntax.tcons (Syntax.tyStruct (List._∷_ 115 (List._∷_ 104 (List._∷_ 101 (List._∷_ 101 (List._∷_ 116 (List._∷_ 58 (List._∷_ 58 (List._∷_ 84 (List._∷_ 101 (List._∷_ 114 (List._∷_ 109 (List._∷_ 78 (List._∷_ 117 (List._∷_ 109 (List._∷_ 98 (List._∷_ 101 (List._∷_ 114 List.[]))))))))))))))))) (Syntax.tcons (Syntax.tyInt Syntax.w8) Syntax.tnil)) Syntax.tnil) (Syntax.ttcons (Syntax.tcons (Syntax.tyStruct (List._∷_ 115 (List._∷_ 104 (List._∷_ 101 (List._∷_ 101 (List._∷_ 116 (List._∷_ 58 (List._∷_ 58 (List._∷_ 69 (List._∷_ 110 (List._∷_ 116 (List._∷_ 114 (List._∷_ 121 (List._∷_ 78 (List._∷_ 117 (List._∷_ 109 (List._∷_ 98 (List._∷_ 101 (List._∷_ 114 List.[])))))))))))))))))) (Syntax.tcons (Syntax.tyInt Syntax.w8) Syntax.tnil)) Syntax.tnil) (Syntax.ttcons Syntax.tnil Syntax.ttnil))))))) Syntax.tnil) (Syntax.ttcons Syntax.tnil (Syntax.ttcons Syntax.tnil (Syntax.ttcons (Syntax.tcons (Syntax.tyInt Syntax.w8) Syntax.tnil) Syntax.ttnil)))))) (List._∷_ (1, Rows'.sslice (Referent.rtF (Referent.fInt Syntax.w8)) (Syntax.tyRef (Syntax.named 0) Syntax.imm (Syntax.tyInt Syntax.w8)) 0) (List._∷_ (2, Rows'.sslice (Referent.rtF Referent.fBool) (Syntax.tyRef (Syntax.named 1) Syntax.imm Syntax.tyBool) 1) (List._∷_ (3, Rows'.sslice (Referent.rtF (Referent.fInt Syntax.w64)) (Syntax.tyRef (Syntax.named 2) Syntax.imm (Syntax.tyInt Syntax.w64)) 2) (List._∷_ (4, Rows'.sslice (Referent.rtF (Referent.fInt Syntax.w64)) (Syntax.tyRef (Syntax.named 3) Syntax.imm (Syntax.tyInt Syntax.w64)) 3) (List._∷_ (5, Rows'.sslice (Struct″.row StepT.the-type) (Syntax.tyRef (Syntax.named 4) Syntax.imm (Memory″.pointee ((Struct″.row StepT.the-type) .written))) 4) (List._∷_ (6, Rows'.sc-here (Row.sInt Syntax.w64)) (List._∷_ (7, Rows.arr-owed (Referent.rtF Referent.fBool) 256 5) (List._∷_ (8, Rows.arr-owed (Referent.rtF Referent.fBool) 256 6) (List._∷_ (9, Rows'.any-gone (Syntax.tyInt Syntax.w64)) (List._∷_ (10, Rows'.any-gone (Syntax.tyInt Syntax.w64)) (List._∷_ (11, Rows'.any-gone Syntax.tyBool) (List._∷_ (12, Rows'.any-gone (Syntax.tyInt Syntax.w8)) (List._∷_ (13, Rows'.sc-here Row.sUnit) (List._∷_ (14, Rows'.any-gone (Syntax.tyRef Syntax.erased Syntax.mut (Syntax.tyArray Syntax.tyBool 256))) (List._∷_ (15, Mut.msleft (Referent.rtF Referent.fBool) (Syntax.tyRef Syntax.erased Syntax.mut Syntax.tyBool)) List.[])))))))))))))))
+t20 = List._∷_ (0, Rows'.any-gone (Syntax.tyEnum (List._∷_ 115 (List._∷_ 117 (List._∷_ 114 (List._∷_ 118 (List._∷_ 101 (List._∷_ 121 (List._∷_ 111 (List._∷_ 114 (List._∷_ 58 (List._∷_ 58 (List._∷_ 83 (List._∷_ 117 (List._∷_ 114 (List._∷_ 118 (List._∷_ 101 (List._∷_ 121 List.[])))))))))))))))) (Syntax.ttcons (Syntax.tcons (Syntax.tyEnum (List._∷_ 114 (List._∷_ 101 (List._∷_ 102 (List._∷_ 117 (List._∷_ 115 (List._∷_ 97 (List._∷_ 108 (List._∷_ 58 (List._∷_ 58 (List._∷_ 82 (List._∷_ 101 (List._∷_ 102 (List._∷_ 117 (List._∷_ 115 (List._∷_ 97 (List._∷_ 108 List.[])))))))))))))))) (Syntax.ttcons Syntax.tnil (Syntax.ttcons Syntax.tnil (Syntax.ttcons Syntax.tnil (Syntax.ttcons (Syntax.tcons (Syntax.tyStruct (List._∷_ 115 (List._∷_ 104 (List._∷_ 101 (List._∷_ 101 (List._∷_ 116 (List._∷_ 58 (List._∷_ 58 (List._∷_ 84 (List._∷_ 101 (List._∷_ 114 (List._∷_ 109 (List._∷_ 78 (List._∷_ 117 (List._∷_ 109 (List._∷_ 98 (List._∷_ 101 (List._∷_ 114 List.[]))))))))))))))))) (Syntax.tcons (Syntax.tyInt Syntax.w8) Syntax.tnil)) Syntax.tnil) (Syntax.ttcons (Syntax.tcons (Syntax.tyStruct (List._∷_ 115 (List._∷_ 104 (List._∷_ 101 (List._∷_ 101 (List._∷_ 116 (List._∷_ 58 (List._∷_ 58 (List._∷_ 69 (List._∷_ 110 (List._∷_ 116 (List._∷_ 114 (List._∷_ 121 (List._∷_ 78 (List._∷_ 117 (List._∷_ 109 (List._∷_ 98 (List._∷_ 101 (List._∷_ 114 List.[])))))))))))))))))) (Syntax.tcons (Syntax.tyInt Syntax.w8) Syntax.tnil)) Syntax.tnil) (Syntax.ttcons Syntax.tnil Syntax.ttnil))))))) Syntax.tnil) (Syntax.ttcons Syntax.tnil (Syntax.ttcons Syntax.tnil (Syntax.ttcons (Syntax.tcons (Syntax.tyInt Syntax.w8) Syntax.tnil) Syntax.ttnil)))))) (List._∷_ (1, Rows'.sslice (Referent.rtF (Referent.fInt Syntax.w8)) (Syntax.tyRef (Syntax.named 0) Syntax.imm (Syntax.tyInt Syntax.w8)) 0) (List._∷_ (2, Rows'.sslice (Referent.rtF Referent.fBool) (Syntax.tyRef (Syntax.named 1) Syntax.imm Syntax.tyBool) 1) (List._∷_ (3, Rows'.sslice (Referent.rtF (Referent.fInt Syntax.w64)) (Syntax.tyRef (Syntax.named 2) Syntax.imm (Syntax.tyInt Syntax.w64)) 2) (List._∷_ (4, Rows'.sslice (Referent.rtF (Referent.fInt Syntax.w64)) (Syntax.tyRef (Syntax.named 3) Syntax.imm (Syntax.tyInt Syntax.w64)) 3) (List._∷_ (5, Rows'.sslice (Struct″.row StepT.the-type) (Syntax.tyRef (Syntax.named 4) Syntax.imm (Memory″.pointee ((Struct″.row StepT.the-type) .written))) 4) (List._∷_ (6, Rows'.sc-here (Row.sInt Syntax.w64)) (List._∷_ (7, Rows.arr-owed (Referent.rtF Referent.fBool) 256 5) (List._∷_ (8, Rows.arr-owed (Referent.rtF (Referent.fInt Syntax.w64)) 2 6) (List._∷_ (9, Rows'.any-gone (Syntax.tyInt Syntax.w64)) (List._∷_ (10, Rows'.any-gone (Syntax.tyInt Syntax.w64)) (List._∷_ (11, Rows'.any-gone Syntax.tyBool) (List._∷_ (12, Rows'.any-gone (Syntax.tyInt Syntax.w8)) (List._∷_ (13, Rows'.sc-here Row.sUnit) (List._∷_ (14, Rows'.any-gone (Syntax.tyRef Syntax.erased Syntax.mut (Syntax.tyArray Syntax.tyBool 256))) (List._∷_ (15, Mut.msleft (Referent.rtF Referent.fBool) (Syntax.tyRef Syntax.erased Syntax.mut Syntax.tyBool)) List.[])))))))))))))))
 
 abbrev pub t21 : List.List Row.Entry
-t21 = List._∷_ (16, Rows'.any-gone (Syntax.tyRef Syntax.erased Syntax.mut (Syntax.tyArray Syntax.tyBool 256))) (List._∷_ (17, Mut.msleft (Referent.rtF Referent.fBool) (Syntax.tyRef Syntax.erased Syntax.mut Syntax.tyBool)) (List._∷_ (18, Rows'.any-gone Syntax.tyBool) (List._∷_ (19, Rows'.any-gone (Syntax.tyRef Syntax.erased Syntax.imm (Syntax.tyArray Syntax.tyBool 256))) (List._∷_ (20, Rows'.any-gone (Syntax.tyStruct (List._∷_ 38 (List._∷_ 91 (List._∷_ 93 List.[]))) (Syntax.tcons (Syntax.tyRef Syntax.erased Syntax.imm Syntax.tyBool) (Syntax.tcons (Syntax.tyInt Syntax.w64) Syntax.tnil)))) (List._∷_ (21, Rows'.any-gone (Syntax.tyEnum (List._∷_ 115 (List._∷_ 117 (List._∷_ 114 (List._∷_ 118 (List._∷_ 101 (List._∷_ 121 (List._∷_ 111 (List._∷_ 114 (List._∷_ 58 (List._∷_ 58 (List._∷_ 83 (List._∷_ 117 (List._∷_ 114 (List._∷_ 118 (List._∷_ 101 (List._∷_ 121 List.[])))))))))))))))) (Syntax.ttcons (Syntax.tcons (Syntax.tyEnum (List._∷_ 114 (List._∷_ 101 (List._∷_ 102 (List._∷_ 117 (List._∷_ 115 (List._∷_ 97 (List._∷_ 108 (List._∷_ 58 (List._∷_ 58 (List._∷_ 82 (List._∷_ 101 (List._∷_ 102 (List._∷_ 117 (List._∷_ 115 (List._∷_ 97 (List._∷_ 108 List.[])))))))))))))))) (Syntax.ttcons Syntax.tnil (Syntax.ttcons Syntax.tnil (Syntax.ttcons Syntax.tnil (Syntax.ttcons (Syntax.tcons (Syntax.tyStruct (List._∷_ 115 (List._∷_ 104 (List._∷_ 101 (List._∷_ 101 (List._∷_ 116 (List._∷_ 58 (List._∷_ 58 (List._∷_ 84 (List._∷_ 101 (List._∷_ 114 (List._∷_ 109 (List._∷_ 78 (List._∷_ 117 (List._∷_ 109 (List._∷_ 98 (List._∷_ 101 (List._∷_ 114 List.[]))))))))))))))))) (Syntax.tcons (Syntax.tyInt Syntax.w8) Syntax.tnil)) Syntax.tnil) (Syntax.ttcons (Syntax.tcons (Syntax.tyStruct (List._∷_ 115 (List._∷_ 104 (List._∷_ 101 (List._∷_ 101 (List._∷_ 116 (List._∷_ 58 (List._∷_ 58 (List._∷_ 69 (List._∷_ 110 (List._∷_ 116 (List._∷_ 114 (List._∷_ 121 (List._∷_ 78 (List._∷_ 117 (List._∷_ 109 (List._∷_ 98 (List._∷_ 101 (List._∷_ 114 List.[])))))))))))))))))) (Syntax.tcons (Syntax.tyInt Syntax.w8) Syntax.tnil)) Syntax.tnil) (Syntax.ttcons Syntax.tnil Syntax.ttnil))))))) Syntax.tnil) (Syntax.ttcons Syntax.tnil (Syntax.ttcons Syntax.tnil (Syntax.ttcons (Syntax.tcons (Syntax.tyInt Syntax.w8) Syntax.tnil) Syntax.ttnil)))))) (List._∷_ (22, Rows'.any-gone (Syntax.tyInt Syntax.w8)) List.[]))))))
+t21 = List._∷_ (16, Rows'.any-gone (Syntax.tyRef Syntax.erased Syntax.mut (Syntax.tyArray (Syntax.tyInt Syntax.w64) 2))) (List._∷_ (17, Mut.msleft (Referent.rtF (Referent.fInt Syntax.w64)) (Syntax.tyRef Syntax.erased Syntax.mut (Syntax.tyInt Syntax.w64))) (List._∷_ (18, Rows'.any-gone Syntax.tyBool) (List._∷_ (19, Rows'.any-gone (Syntax.tyRef Syntax.erased Syntax.imm (Syntax.tyArray Syntax.tyBool 256))) (List._∷_ (20, Rows'.any-gone (Syntax.tyStruct (List._∷_ 38 (List._∷_ 91 (List._∷_ 93 List.[]))) (Syntax.tcons (Syntax.tyRef Syntax.erased Syntax.imm Syntax.tyBool) (Syntax.tcons (Syntax.tyInt Syntax.w64) Syntax.tnil)))) (List._∷_ (21, Rows'.any-gone (Syntax.tyEnum (List._∷_ 115 (List._∷_ 117 (List._∷_ 114 (List._∷_ 118 (List._∷_ 101 (List._∷_ 121 (List._∷_ 111 (List._∷_ 114 (List._∷_ 58 (List._∷_ 58 (List._∷_ 83 (List._∷_ 117 (List._∷_ 114 (List._∷_ 118 (List._∷_ 101 (List._∷_ 121 List.[])))))))))))))))) (Syntax.ttcons (Syntax.tcons (Syntax.tyEnum (List._∷_ 114 (List._∷_ 101 (List._∷_ 102 (List._∷_ 117 (List._∷_ 115 (List._∷_ 97 (List._∷_ 108 (List._∷_ 58 (List._∷_ 58 (List._∷_ 82 (List._∷_ 101 (List._∷_ 102 (List._∷_ 117 (List._∷_ 115 (List._∷_ 97 (List._∷_ 108 List.[])))))))))))))))) (Syntax.ttcons Syntax.tnil (Syntax.ttcons Syntax.tnil (Syntax.ttcons Syntax.tnil (Syntax.ttcons (Syntax.tcons (Syntax.tyStruct (List._∷_ 115 (List._∷_ 104 (List._∷_ 101 (List._∷_ 101 (List._∷_ 116 (List._∷_ 58 (List._∷_ 58 (List._∷_ 84 (List._∷_ 101 (List._∷_ 114 (List._∷_ 109 (List._∷_ 78 (List._∷_ 117 (List._∷_ 109 (List._∷_ 98 (List._∷_ 101 (List._∷_ 114 List.[]))))))))))))))))) (Syntax.tcons (Syntax.tyInt Syntax.w8) Syntax.tnil)) Syntax.tnil) (Syntax.ttcons (Syntax.tcons (Syntax.tyStruct (List._∷_ 115 (List._∷_ 104 (List._∷_ 101 (List._∷_ 101 (List._∷_ 116 (List._∷_ 58 (List._∷_ 58 (List._∷_ 69 (List._∷_ 110 (List._∷_ 116 (List._∷_ 114 (List._∷_ 121 (List._∷_ 78 (List._∷_ 117 (List._∷_ 109 (List._∷_ 98 (List._∷_ 101 (List._∷_ 114 List.[])))))))))))))))))) (Syntax.tcons (Syntax.tyInt Syntax.w8) Syntax.tnil)) Syntax.tnil) (Syntax.ttcons Syntax.tnil Syntax.ttnil))))))) Syntax.tnil) (Syntax.ttcons Syntax.tnil (Syntax.ttcons Syntax.tnil (Syntax.ttcons (Syntax.tcons (Syntax.tyInt Syntax.w8) Syntax.tnil) Syntax.ttnil)))))) (List._∷_ (22, Rows'.any-gone (Syntax.tyInt Syntax.w8)) List.[]))))))
 
 abbrev pub t22 : List.List Row.Entry
-t22 = List._∷_ (0, Rows'.any-gone (Syntax.tyEnum (List._∷_ 115 (List._∷_ 117 (List._∷_ 114 (List._∷_ 118 (List._∷_ 101 (List._∷_ 121 (List._∷_ 111 (List._∷_ 114 (List._∷_ 58 (List._∷_ 58 (List._∷_ 83 (List._∷_ 117 (List._∷_ 114 (List._∷_ 118 (List._∷_ 101 (List._∷_ 121 List.[])))))))))))))))) (Syntax.ttcons (Syntax.tcons (Syntax.tyEnum (List._∷_ 114 (List._∷_ 101 (List._∷_ 102 (List._∷_ 117 (List._∷_ 115 (List._∷_ 97 (List._∷_ 108 (List._∷_ 58 (List._∷_ 58 (List._∷_ 82 (List._∷_ 101 (List._∷_ 102 (List._∷_ 117 (List._∷_ 115 (List._∷_ 97 (List._∷_ 108 List.[])))))))))))))))) (Syntax.ttcons Syntax.tnil (Syntax.ttcons Syntax.tnil (Syntax.ttcons Syntax.tnil (Syntax.ttcons (Syntax.tcons (Syntax.tyStruct (List._∷_ 115 (List._∷_ 104 (List._∷_ 101 (List._∷_ 101 (List._∷_ 116 (List._∷_ 58 (List._∷_ 58 (List._∷_ 84 (List._∷_ 101 (List._∷_ 114 (List._∷_ 109 (List._∷_ 78 (List._∷_ 117 (List._∷_ 109 (List._∷_ 98 (List._∷_ 101 (List._∷_ 114 List.[]))))))))))))))))) (Syntax.tcons (Syntax.tyInt Syntax.w8) Syntax.tnil)) Syntax.tnil) (Syntax.ttcons (Syntax.tcons (Syntax.tyStruct (List._∷_ 115 (List._∷_ 104 (List._∷_ 101 (List._∷_ 101 (List._∷_ 116 (List._∷_ 58 (List._∷_ 58 (List._∷_ 69 (List._∷_ 110 (List._∷_ 116 (List._∷_ 114 (List._∷_ 121 (List._∷_ 78 (List._∷_ 117 (List._∷_ 109 (List._∷_ 98 (List._∷_ 101 (List._∷_ 114 List.[])))))))))))))))))) (Syntax.tcons (Syntax.tyInt Syntax.w8) Syntax.tnil)) Syntax.tnil) (Syntax.ttcons Syntax.tnil Syntax.ttnil))))))) Syntax.tnil) (Syntax.ttcons Syntax.tnil (Syntax.ttcons Syntax.tnil (Syntax.ttcons (Syntax.tcons (Syntax.tyInt Syntax.w8) Syntax.tnil) Syntax.ttnil)))))) (List._∷_ (1, Rows'.sslice (Referent.rtF (Referent.fInt Syntax.w8)) (Syntax.tyRef (Syntax.named 0) Syntax.imm (Syntax.tyInt Syntax.w8)) 0) (List._∷_ (2, Rows'.sslice (Referent.rtF Referent.fBool) (Syntax.tyRef (Syntax.named 1) Syntax.imm Syntax.tyBool) 1) (List._∷_ (3, Rows'.sslice (Referent.rtF (Referent.fInt Syntax.w64)) (Syntax.tyRef (Syntax.named 2) Syntax.imm (Syntax.tyInt Syntax.w64)) 2) (List._∷_ (4, Rows'.sslice (Referent.rtF (Referent.fInt Syntax.w64)) (Syntax.tyRef (Syntax.named 3) Syntax.imm (Syntax.tyInt Syntax.w64)) 3) (List._∷_ (5, Rows'.sslice (Struct″.row StepT.the-type) (Syntax.tyRef (Syntax.named 4) Syntax.imm (Memory″.pointee ((Struct″.row StepT.the-type) .written))) 4) (List._∷_ (6, Rows'.sc-here (Row.sInt Syntax.w64)) (List._∷_ (7, Rows.arr-owed (Referent.rtF Referent.fBool) 256 5) (List._∷_ (8, Rows.arr-owed (Referent.rtF Referent.fBool) 256 6) (List._∷_ (9, Rows'.any-gone (Syntax.tyInt Syntax.w64)) (List._∷_ (10, Rows'.any-gone (Syntax.tyInt Syntax.w64)) (List._∷_ (11, Rows'.any-gone Syntax.tyBool) (List._∷_ (12, Rows'.any-gone (Syntax.tyInt Syntax.w8)) (List._∷_ (13, Rows'.any-gone Syntax.tyUnit) (List._∷_ (14, Rows'.any-gone (Syntax.tyRef Syntax.erased Syntax.mut (Syntax.tyArray Syntax.tyBool 256))) (List._∷_ (15, Mut.msleft (Referent.rtF Referent.fBool) (Syntax.tyRef Syntax.erased Syntax.mut Syntax.tyBool)) List.[])))))))))))))))
+t22 = List._∷_ (0, Rows'.any-gone (Syntax.tyEnum (List._∷_ 115 (List._∷_ 117 (List._∷_ 114 (List._∷_ 118 (List._∷_ 101 (List._∷_ 121 (List._∷_ 111 (List._∷_ 114 (List._∷_ 58 (List._∷_ 58 (List._∷_ 83 (List._∷_ 117 (List._∷_ 114 (List._∷_ 118 (List._∷_ 101 (List._∷_ 121 List.[])))))))))))))))) (Syntax.ttcons (Syntax.tcons (Syntax.tyEnum (List._∷_ 114 (List._∷_ 101 (List._∷_ 102 (List._∷_ 117 (List._∷_ 115 (List._∷_ 97 (List._∷_ 108 (List._∷_ 58 (List._∷_ 58 (List._∷_ 82 (List._∷_ 101 (List._∷_ 102 (List._∷_ 117 (List._∷_ 115 (List._∷_ 97 (List._∷_ 108 List.[])))))))))))))))) (Syntax.ttcons Syntax.tnil (Syntax.ttcons Syntax.tnil (Syntax.ttcons Syntax.tnil (Syntax.ttcons (Syntax.tcons (Syntax.tyStruct (List._∷_ 115 (List._∷_ 104 (List._∷_ 101 (List._∷_ 101 (List._∷_ 116 (List._∷_ 58 (List._∷_ 58 (List._∷_ 84 (List._∷_ 101 (List._∷_ 114 (List._∷_ 109 (List._∷_ 78 (List._∷_ 117 (List._∷_ 109 (List._∷_ 98 (List._∷_ 101 (List._∷_ 114 List.[]))))))))))))))))) (Syntax.tcons (Syntax.tyInt Syntax.w8) Syntax.tnil)) Syntax.tnil) (Syntax.ttcons (Syntax.tcons (Syntax.tyStruct (List._∷_ 115 (List._∷_ 104 (List._∷_ 101 (List._∷_ 101 (List._∷_ 116 (List._∷_ 58 (List._∷_ 58 (List._∷_ 69 (List._∷_ 110 (List._∷_ 116 (List._∷_ 114 (List._∷_ 121 (List._∷_ 78 (List._∷_ 117 (List._∷_ 109 (List._∷_ 98 (List._∷_ 101 (List._∷_ 114 List.[])))))))))))))))))) (Syntax.tcons (Syntax.tyInt Syntax.w8) Syntax.tnil)) Syntax.tnil) (Syntax.ttcons Syntax.tnil Syntax.ttnil))))))) Syntax.tnil) (Syntax.ttcons Syntax.tnil (Syntax.ttcons Syntax.tnil (Syntax.ttcons (Syntax.tcons (Syntax.tyInt Syntax.w8) Syntax.tnil) Syntax.ttnil)))))) (List._∷_ (1, Rows'.sslice (Referent.rtF (Referent.fInt Syntax.w8)) (Syntax.tyRef (Syntax.named 0) Syntax.imm (Syntax.tyInt Syntax.w8)) 0) (List._∷_ (2, Rows'.sslice (Referent.rtF Referent.fBool) (Syntax.tyRef (Syntax.named 1) Syntax.imm Syntax.tyBool) 1) (List._∷_ (3, Rows'.sslice (Referent.rtF (Referent.fInt Syntax.w64)) (Syntax.tyRef (Syntax.named 2) Syntax.imm (Syntax.tyInt Syntax.w64)) 2) (List._∷_ (4, Rows'.sslice (Referent.rtF (Referent.fInt Syntax.w64)) (Syntax.tyRef (Syntax.named 3) Syntax.imm (Syntax.tyInt Syntax.w64)) 3) (List._∷_ (5, Rows'.sslice (Struct″.row StepT.the-type) (Syntax.tyRef (Syntax.named 4) Syntax.imm (Memory″.pointee ((Struct″.row StepT.the-type) .written))) 4) (List._∷_ (6, Rows'.sc-here (Row.sInt Syntax.w64)) (List._∷_ (7, Rows.arr-owed (Referent.rtF Referent.fBool) 256 5) (List._∷_ (8, Rows.arr-owed (Referent.rtF (Referent.fInt Syntax.w64)) 2 6) (List._∷_ (9, Rows'.any-gone (Syntax.tyInt Syntax.w64)) (List._∷_ (10, Rows'.any-gone (Syntax.tyInt Syntax.w64)) (List._∷_ (11, Rows'.any-gone Syntax.tyBool) (List._∷_ (12, Rows'.any-gone (Syntax.tyInt Syntax.w8)) (List._∷_ (13, Rows'.any-gone Syntax.tyUnit) (List._∷_ (14, Rows'.any-gone (Syntax.tyRef Syntax.erased Syntax.mut (Syntax.tyArray Syntax.tyBool 256))) (List._∷_ (15, Mut.msleft (Referent.rtF Referent.fBool) (Syntax.tyRef Syntax.erased Syntax.mut Syntax.tyBool)) List.[])))))))))))))))
 
 abbrev pub t23 : List.List Row.Entry
-t23 = List._∷_ (0, Rows'.any-gone (Syntax.tyEnum (List._∷_ 115 (List._∷_ 117 (List._∷_ 114 (List._∷_ 118 (List._∷_ 101 (List._∷_ 121 (List._∷_ 111 (List._∷_ 114 (List._∷_ 58 (List._∷_ 58 (List._∷_ 83 (List._∷_ 117 (List._∷_ 114 (List._∷_ 118 (List._∷_ 101 (List._∷_ 121 List.[])))))))))))))))) (Syntax.ttcons (Syntax.tcons (Syntax.tyEnum (List._∷_ 114 (List._∷_ 101 (List._∷_ 102 (List._∷_ 117 (List._∷_ 115 (List._∷_ 97 (List._∷_ 108 (List._∷_ 58 (List._∷_ 58 (List._∷_ 82 (List._∷_ 101 (List._∷_ 102 (List._∷_ 117 (List._∷_ 115 (List._∷_ 97 (List._∷_ 108 List.[])))))))))))))))) (Syntax.ttcons Syntax.tnil (Syntax.ttcons Syntax.tnil (Syntax.ttcons Syntax.tnil (Syntax.ttcons (Syntax.tcons (Syntax.tyStruct (List._∷_ 115 (List._∷_ 104 (List._∷_ 101 (List._∷_ 101 (List._∷_ 116 (List._∷_ 58 (List._∷_ 58 (List._∷_ 84 (List._∷_ 101 (List._∷_ 114 (List._∷_ 109 (List._∷_ 78 (List._∷_ 117 (List._∷_ 109 (List._∷_ 98 (List._∷_ 101 (List._∷_ 114 List.[]))))))))))))))))) (Syntax.tcons (Syntax.tyInt Syntax.w8) Syntax.tnil)) Syntax.tnil) (Syntax.ttcons (Syntax.tcons (Syntax.tyStruct (List._∷_ 115 (List._∷_ 104 (List._∷_ 101 (List._∷_ 101 (List._∷_ 116 (List._∷_ 58 (List._∷_ 58 (List._∷_ 69 (List._∷_ 110 (List._∷_ 116 (List._∷_ 114 (List._∷_ 121 (List._∷_ 78 (List._∷_ 117 (List._∷_ 109 (List._∷_ 98 (List._∷_ 101 (List._∷_ 114 List.[])))))))))))))))))) (Syntax.tcons (Syntax.tyInt Syntax.w8) Syntax.tnil)) Syntax.tnil) (Syntax.ttcons Syntax.tnil Syntax.ttnil))))))) Syntax.tnil) (Syntax.ttcons Syntax.tnil (Syntax.ttcons Syntax.tnil (Syntax.ttcons (Syntax.tcons (Syntax.tyInt Syntax.w8) Syntax.tnil) Syntax.ttnil)))))) (List._∷_ (1, Rows'.sslice (Referent.rtF (Referent.fInt Syntax.w8)) (Syntax.tyRef (Syntax.named 0) Syntax.imm (Syntax.tyInt Syntax.w8)) 0) (List._∷_ (2, Rows'.sslice (Referent.rtF Referent.fBool) (Syntax.tyRef (Syntax.named 1) Syntax.imm Syntax.tyBool) 1) (List._∷_ (3, Rows'.sslice (Referent.rtF (Referent.fInt Syntax.w64)) (Syntax.tyRef (Syntax.named 2) Syntax.imm (Syntax.tyInt Syntax.w64)) 2) (List._∷_ (4, Rows'.sslice (Referent.rtF (Referent.fInt Syntax.w64)) (Syntax.tyRef (Syntax.named 3) Syntax.imm (Syntax.tyInt Syntax.w64)) 3) (List._∷_ (5, Rows'.sslice (Struct″.row StepT.the-type) (Syntax.tyRef (Syntax.named 4) Syntax.imm (Memory″.pointee ((Struct″.row StepT.the-type) .written))) 4) (List._∷_ (6, Rows'.sc-here (Row.sInt Syntax.w64)) (List._∷_ (7, Rows.arrF (Referent.rtF Referent.fBool) 256 0) (List._∷_ (8, Rows.arr-owed (Referent.rtF Referent.fBool) 256 6) (List._∷_ (9, Rows'.any-gone (Syntax.tyInt Syntax.w64)) (List._∷_ (10, Rows'.any-gone (Syntax.tyInt Syntax.w64)) (List._∷_ (11, Rows'.any-gone Syntax.tyBool) (List._∷_ (12, Rows'.any-gone (Syntax.tyInt Syntax.w8)) (List._∷_ (13, Rows'.any-gone Syntax.tyUnit) (List._∷_ (14, Rows'.any-gone (Syntax.tyRef Syntax.erased Syntax.mut (Syntax.tyArray Syntax.tyBool 256))) (List._∷_ (15, Rows'.any-gone (Syntax.tyStruct (List._∷_ 38 (List._∷_ 91 (List._∷_ 93 List.[]))) (Syntax.tcons (Syntax.tyRef Syntax.erased Syntax.mut Syntax.tyBool) (Syntax.tcons (Syntax.tyInt Syntax.w64) Syntax.tnil)))) List.[])))))))))))))))
+t23 = List._∷_ (0, Rows'.any-gone (Syntax.tyEnum (List._∷_ 115 (List._∷_ 117 (List._∷_ 114 (List._∷_ 118 (List._∷_ 101 (List._∷_ 121 (List._∷_ 111 (List._∷_ 114 (List._∷_ 58 (List._∷_ 58 (List._∷_ 83 (List._∷_ 117 (List._∷_ 114 (List._∷_ 118 (List._∷_ 101 (List._∷_ 121 List.[])))))))))))))))) (Syntax.ttcons (Syntax.tcons (Syntax.tyEnum (List._∷_ 114 (List._∷_ 101 (List._∷_ 102 (List._∷_ 117 (List._∷_ 115 (List._∷_ 97 (List._∷_ 108 (List._∷_ 58 (List._∷_ 58 (List._∷_ 82 (List._∷_ 101 (List._∷_ 102 (List._∷_ 117 (List._∷_ 115 (List._∷_ 97 (List._∷_ 108 List.[])))))))))))))))) (Syntax.ttcons Syntax.tnil (Syntax.ttcons Syntax.tnil (Syntax.ttcons Syntax.tnil (Syntax.ttcons (Syntax.tcons (Syntax.tyStruct (List._∷_ 115 (List._∷_ 104 (List._∷_ 101 (List._∷_ 101 (List._∷_ 116 (List._∷_ 58 (List._∷_ 58 (List._∷_ 84 (List._∷_ 101 (List._∷_ 114 (List._∷_ 109 (List._∷_ 78 (List._∷_ 117 (List._∷_ 109 (List._∷_ 98 (List._∷_ 101 (List._∷_ 114 List.[]))))))))))))))))) (Syntax.tcons (Syntax.tyInt Syntax.w8) Syntax.tnil)) Syntax.tnil) (Syntax.ttcons (Syntax.tcons (Syntax.tyStruct (List._∷_ 115 (List._∷_ 104 (List._∷_ 101 (List._∷_ 101 (List._∷_ 116 (List._∷_ 58 (List._∷_ 58 (List._∷_ 69 (List._∷_ 110 (List._∷_ 116 (List._∷_ 114 (List._∷_ 121 (List._∷_ 78 (List._∷_ 117 (List._∷_ 109 (List._∷_ 98 (List._∷_ 101 (List._∷_ 114 List.[])))))))))))))))))) (Syntax.tcons (Syntax.tyInt Syntax.w8) Syntax.tnil)) Syntax.tnil) (Syntax.ttcons Syntax.tnil Syntax.ttnil))))))) Syntax.tnil) (Syntax.ttcons Syntax.tnil (Syntax.ttcons Syntax.tnil (Syntax.ttcons (Syntax.tcons (Syntax.tyInt Syntax.w8) Syntax.tnil) Syntax.ttnil)))))) (List._∷_ (1, Rows'.sslice (Referent.rtF (Referent.fInt Syntax.w8)) (Syntax.tyRef (Syntax.named 0) Syntax.imm (Syntax.tyInt Syntax.w8)) 0) (List._∷_ (2, Rows'.sslice (Referent.rtF Referent.fBool) (Syntax.tyRef (Syntax.named 1) Syntax.imm Syntax.tyBool) 1) (List._∷_ (3, Rows'.sslice (Referent.rtF (Referent.fInt Syntax.w64)) (Syntax.tyRef (Syntax.named 2) Syntax.imm (Syntax.tyInt Syntax.w64)) 2) (List._∷_ (4, Rows'.sslice (Referent.rtF (Referent.fInt Syntax.w64)) (Syntax.tyRef (Syntax.named 3) Syntax.imm (Syntax.tyInt Syntax.w64)) 3) (List._∷_ (5, Rows'.sslice (Struct″.row StepT.the-type) (Syntax.tyRef (Syntax.named 4) Syntax.imm (Memory″.pointee ((Struct″.row StepT.the-type) .written))) 4) (List._∷_ (6, Rows'.sc-here (Row.sInt Syntax.w64)) (List._∷_ (7, Rows.arrF (Referent.rtF Referent.fBool) 256 0) (List._∷_ (8, Rows.arr-owed (Referent.rtF (Referent.fInt Syntax.w64)) 2 6) (List._∷_ (9, Rows'.any-gone (Syntax.tyInt Syntax.w64)) (List._∷_ (10, Rows'.any-gone (Syntax.tyInt Syntax.w64)) (List._∷_ (11, Rows'.any-gone Syntax.tyBool) (List._∷_ (12, Rows'.any-gone (Syntax.tyInt Syntax.w8)) (List._∷_ (13, Rows'.any-gone Syntax.tyUnit) (List._∷_ (14, Rows'.any-gone (Syntax.tyRef Syntax.erased Syntax.mut (Syntax.tyArray Syntax.tyBool 256))) (List._∷_ (15, Rows'.any-gone (Syntax.tyStruct (List._∷_ 38 (List._∷_ 91 (List._∷_ 93 List.[]))) (Syntax.tcons (Syntax.tyRef Syntax.erased Syntax.mut Syntax.tyBool) (Syntax.tcons (Syntax.tyInt Syntax.w64) Syntax.tnil)))) List.[])))))))))))))))
 
 abbrev pub t24 : List.List Row.Entry
-t24 = List._∷_ (0, Rows'.any-gone (Syntax.tyEnum (List._∷_ 115 (List._∷_ 117 (List._∷_ 114 (List._∷_ 118 (List._∷_ 101 (List._∷_ 121 (List._∷_ 111 (List._∷_ 114 (List._∷_ 58 (List._∷_ 58 (List._∷_ 83 (List._∷_ 117 (List._∷_ 114 (List._∷_ 118 (List._∷_ 101 (List._∷_ 121 List.[])))))))))))))))) (Syntax.ttcons (Syntax.tcons (Syntax.tyEnum (List._∷_ 114 (List._∷_ 101 (List._∷_ 102 (List._∷_ 117 (List._∷_ 115 (List._∷_ 97 (List._∷_ 108 (List._∷_ 58 (List._∷_ 58 (List._∷_ 82 (List._∷_ 101 (List._∷_ 102 (List._∷_ 117 (List._∷_ 115 (List._∷_ 97 (List._∷_ 108 List.[])))))))))))))))) (Syntax.ttcons Syntax.tnil (Syntax.ttcons Syntax.tnil (Syntax.ttcons Syntax.tnil (Syntax.ttcons (Syntax.tcons (Syntax.tyStruct (List._∷_ 115 (List._∷_ 104 (List._∷_ 101 (List._∷_ 101 (List._∷_ 116 (List._∷_ 58 (List._∷_ 58 (List._∷_ 84 (List._∷_ 101 (List._∷_ 114 (List._∷_ 109 (List._∷_ 78 (List._∷_ 117 (List._∷_ 109 (List._∷_ 98 (List._∷_ 101 (List._∷_ 114 List.[]))))))))))))))))) (Syntax.tcons (Syntax.tyInt Syntax.w8) Syntax.tnil)) Syntax.tnil) (Syntax.ttcons (Syntax.tcons (Syntax.tyStruct (List._∷_ 115 (List._∷_ 104 (List._∷_ 101 (List._∷_ 101 (List._∷_ 116 (List._∷_ 58 (List._∷_ 58 (List._∷_ 69 (List._∷_ 110 (List._∷_ 116 (List._∷_ 114 (List._∷_ 121 (List._∷_ 78 (List._∷_ 117 (List._∷_ 109 (List._∷_ 98 (List._∷_ 101 (List._∷_ 114 List.[])))))))))))))))))) (Syntax.tcons (Syntax.tyInt Syntax.w8) Syntax.tnil)) Syntax.tnil) (Syntax.ttcons Syntax.tnil Syntax.ttnil))))))) Syntax.tnil) (Syntax.ttcons Syntax.tnil (Syntax.ttcons Syntax.tnil (Syntax.ttcons (Syntax.tcons (Syntax.tyInt Syntax.w8) Syntax.tnil) Syntax.ttnil)))))) (List._∷_ (1, Rows'.sslice (Referent.rtF (Referent.fInt Syntax.w8)) (Syntax.tyRef (Syntax.named 0) Syntax.imm (Syntax.tyInt Syntax.w8)) 0) (List._∷_ (2, Rows'.sslice (Referent.rtF Referent.fBool) (Syntax.tyRef (Syntax.named 1) Syntax.imm Syntax.tyBool) 1) (List._∷_ (3, Rows'.sslice (Referent.rtF (Referent.fInt Syntax.w64)) (Syntax.tyRef (Syntax.named 2) Syntax.imm (Syntax.tyInt Syntax.w64)) 2) (List._∷_ (4, Rows'.sslice (Referent.rtF (Referent.fInt Syntax.w64)) (Syntax.tyRef (Syntax.named 3) Syntax.imm (Syntax.tyInt Syntax.w64)) 3) (List._∷_ (5, Rows'.sslice (Struct″.row StepT.the-type) (Syntax.tyRef (Syntax.named 4) Syntax.imm (Memory″.pointee ((Struct″.row StepT.the-type) .written))) 4) (List._∷_ (6, Rows'.sc-here (Row.sInt Syntax.w64)) (List._∷_ (7, Rows.arr-shr (Referent.rtF Referent.fBool) 256 7) (List._∷_ (8, Rows'.any-gone (Syntax.tyArray Syntax.tyBool 256)) (List._∷_ (9, Rows'.any-gone (Syntax.tyInt Syntax.w64)) (List._∷_ (10, Rows'.any-gone (Syntax.tyInt Syntax.w64)) (List._∷_ (11, Rows'.any-gone Syntax.tyBool) (List._∷_ (12, Rows'.any-gone (Syntax.tyInt Syntax.w8)) (List._∷_ (13, Rows'.any-gone Syntax.tyUnit) (List._∷_ (14, Rows'.any-gone (Syntax.tyRef Syntax.erased Syntax.mut (Syntax.tyArray Syntax.tyBool 256))) (List._∷_ (15, Rows'.any-gone (Syntax.tyStruct (List._∷_ 38 (List._∷_ 91 (List._∷_ 93 List.[]))) (Syntax.tcons (Syntax.tyRef Syntax.erased Syntax.mut Syntax.tyBool) (Syntax.tcons (Syntax.tyInt Syntax.w64) Syntax.tnil)))) List.[])))))))))))))))
+t24 = List._∷_ (0, Rows'.any-gone (Syntax.tyEnum (List._∷_ 115 (List._∷_ 117 (List._∷_ 114 (List._∷_ 118 (List._∷_ 101 (List._∷_ 121 (List._∷_ 111 (List._∷_ 114 (List._∷_ 58 (List._∷_ 58 (List._∷_ 83 (List._∷_ 117 (List._∷_ 114 (List._∷_ 118 (List._∷_ 101 (List._∷_ 121 List.[])))))))))))))))) (Syntax.ttcons (Syntax.tcons (Syntax.tyEnum (List._∷_ 114 (List._∷_ 101 (List._∷_ 102 (List._∷_ 117 (List._∷_ 115 (List._∷_ 97 (List._∷_ 108 (List._∷_ 58 (List._∷_ 58 (List._∷_ 82 (List._∷_ 101 (List._∷_ 102 (List._∷_ 117 (List._∷_ 115 (List._∷_ 97 (List._∷_ 108 List.[])))))))))))))))) (Syntax.ttcons Syntax.tnil (Syntax.ttcons Syntax.tnil (Syntax.ttcons Syntax.tnil (Syntax.ttcons (Syntax.tcons (Syntax.tyStruct (List._∷_ 115 (List._∷_ 104 (List._∷_ 101 (List._∷_ 101 (List._∷_ 116 (List._∷_ 58 (List._∷_ 58 (List._∷_ 84 (List._∷_ 101 (List._∷_ 114 (List._∷_ 109 (List._∷_ 78 (List._∷_ 117 (List._∷_ 109 (List._∷_ 98 (List._∷_ 101 (List._∷_ 114 List.[]))))))))))))))))) (Syntax.tcons (Syntax.tyInt Syntax.w8) Syntax.tnil)) Syntax.tnil) (Syntax.ttcons (Syntax.tcons (Syntax.tyStruct (List._∷_ 115 (List._∷_ 104 (List._∷_ 101 (List._∷_ 101 (List._∷_ 116 (List._∷_ 58 (List._∷_ 58 (List._∷_ 69 (List._∷_ 110 (List._∷_ 116 (List._∷_ 114 (List._∷_ 121 (List._∷_ 78 (List._∷_ 117 (List._∷_ 109 (List._∷_ 98 (List._∷_ 101 (List._∷_ 114 List.[])))))))))))))))))) (Syntax.tcons (Syntax.tyInt Syntax.w8) Syntax.tnil)) Syntax.tnil) (Syntax.ttcons Syntax.tnil Syntax.ttnil))))))) Syntax.tnil) (Syntax.ttcons Syntax.tnil (Syntax.ttcons Syntax.tnil (Syntax.ttcons (Syntax.tcons (Syntax.tyInt Syntax.w8) Syntax.tnil) Syntax.ttnil)))))) (List._∷_ (1, Rows'.sslice (Referent.rtF (Referent.fInt Syntax.w8)) (Syntax.tyRef (Syntax.named 0) Syntax.imm (Syntax.tyInt Syntax.w8)) 0) (List._∷_ (2, Rows'.sslice (Referent.rtF Referent.fBool) (Syntax.tyRef (Syntax.named 1) Syntax.imm Syntax.tyBool) 1) (List._∷_ (3, Rows'.sslice (Referent.rtF (Referent.fInt Syntax.w64)) (Syntax.tyRef (Syntax.named 2) Syntax.imm (Syntax.tyInt Syntax.w64)) 2) (List._∷_ (4, Rows'.sslice (Referent.rtF (Referent.fInt Syntax.w64)) (Syntax.tyRef (Syntax.named 3) Syntax.imm (Syntax.tyInt Syntax.w64)) 3) (List._∷_ (5, Rows'.sslice (Struct″.row StepT.the-type) (Syntax.tyRef (Syntax.named 4) Syntax.imm (Memory″.pointee ((Struct″.row StepT.the-type) .written))) 4) (List._∷_ (6, Rows'.sc-here (Row.sInt Syntax.w64)) (List._∷_ (7, Rows.arr-shr (Referent.rtF Referent.fBool) 256 7) (List._∷_ (8, Rows'.any-gone (Syntax.tyArray (Syntax.tyInt Syntax.w64) 2)) (List._∷_ (9, Rows'.any-gone (Syntax.tyInt Syntax.w64)) (List._∷_ (10, Rows'.any-gone (Syntax.tyInt Syntax.w64)) (List._∷_ (11, Rows'.any-gone Syntax.tyBool) (List._∷_ (12, Rows'.any-gone (Syntax.tyInt Syntax.w8)) (List._∷_ (13, Rows'.any-gone Syntax.tyUnit) (List._∷_ (14, Rows'.any-gone (Syntax.tyRef Syntax.erased Syntax.mut (Syntax.tyArray Syntax.tyBool 256))) (List._∷_ (15, Rows'.any-gone (Syntax.tyStruct (List._∷_ 38 (List._∷_ 91 (List._∷_ 93 List.[]))) (Syntax.tcons (Syntax.tyRef Syntax.erased Syntax.mut Syntax.tyBool) (Syntax.tcons (Syntax.tyInt Syntax.w64) Syntax.tnil)))) List.[])))))))))))))))
 
 abbrev pub t25 : List.List Row.Entry
-t25 = List._∷_ (16, Rows'.any-gone (Syntax.tyRef Syntax.erased Syntax.mut (Syntax.tyArray Syntax.tyBool 256))) (List._∷_ (17, Rows'.any-gone (Syntax.tyStruct (List._∷_ 38 (List._∷_ 91 (List._∷_ 93 List.[]))) (Syntax.tcons (Syntax.tyRef Syntax.erased Syntax.mut Syntax.tyBool) (Syntax.tcons (Syntax.tyInt Syntax.w64) Syntax.tnil)))) (List._∷_ (18, Rows'.any-gone Syntax.tyBool) (List._∷_ (19, Relend.ssptr (Referent.rtF Referent.fBool) (Syntax.tyRef Syntax.erased Syntax.imm (Syntax.tyArray Syntax.tyBool 256)) 7) (List._∷_ (20, Rows'.any-gone (Syntax.tyStruct (List._∷_ 38 (List._∷_ 91 (List._∷_ 93 List.[]))) (Syntax.tcons (Syntax.tyRef Syntax.erased Syntax.imm Syntax.tyBool) (Syntax.tcons (Syntax.tyInt Syntax.w64) Syntax.tnil)))) (List._∷_ (21, Rows'.any-gone (Syntax.tyEnum (List._∷_ 115 (List._∷_ 117 (List._∷_ 114 (List._∷_ 118 (List._∷_ 101 (List._∷_ 121 (List._∷_ 111 (List._∷_ 114 (List._∷_ 58 (List._∷_ 58 (List._∷_ 83 (List._∷_ 117 (List._∷_ 114 (List._∷_ 118 (List._∷_ 101 (List._∷_ 121 List.[])))))))))))))))) (Syntax.ttcons (Syntax.tcons (Syntax.tyEnum (List._∷_ 114 (List._∷_ 101 (List._∷_ 102 (List._∷_ 117 (List._∷_ 115 (List._∷_ 97 (List._∷_ 108 (List._∷_ 58 (List._∷_ 58 (List._∷_ 82 (List._∷_ 101 (List._∷_ 102 (List._∷_ 117 (List._∷_ 115 (List._∷_ 97 (List._∷_ 108 List.[])))))))))))))))) (Syntax.ttcons Syntax.tnil (Syntax.ttcons Syntax.tnil (Syntax.ttcons Syntax.tnil (Syntax.ttcons (Syntax.tcons (Syntax.tyStruct (List._∷_ 115 (List._∷_ 104 (List._∷_ 101 (List._∷_ 101 (List._∷_ 116 (List._∷_ 58 (List._∷_ 58 (List._∷_ 84 (List._∷_ 101 (List._∷_ 114 (List._∷_ 109 (List._∷_ 78 (List._∷_ 117 (List._∷_ 109 (List._∷_ 98 (List._∷_ 101 (List._∷_ 114 List.[]))))))))))))))))) (Syntax.tcons (Syntax.tyInt Syntax.w8) Syntax.tnil)) Syntax.tnil) (Syntax.ttcons (Syntax.tcons (Syntax.tyStruct (List._∷_ 115 (List._∷_ 104 (List._∷_ 101 (List._∷_ 101 (List._∷_ 116 (List._∷_ 58 (List._∷_ 58 (List._∷_ 69 (List._∷_ 110 (List._∷_ 116 (List._∷_ 114 (List._∷_ 121 (List._∷_ 78 (List._∷_ 117 (List._∷_ 109 (List._∷_ 98 (List._∷_ 101 (List._∷_ 114 List.[])))))))))))))))))) (Syntax.tcons (Syntax.tyInt Syntax.w8) Syntax.tnil)) Syntax.tnil) (Syntax.ttcons Syntax.tnil Syntax.ttnil))))))) Syntax.tnil) (Syntax.ttcons Syntax.tnil (Syntax.ttcons Syntax.tnil (Syntax.ttcons (Syntax.tcons (Syntax.tyInt Syntax.w8) Syntax.tnil) Syntax.ttnil)))))) (List._∷_ (22, Rows'.any-gone (Syntax.tyInt Syntax.w8)) List.[]))))))
+t25 = List._∷_ (16, Rows'.any-gone (Syntax.tyRef Syntax.erased Syntax.mut (Syntax.tyArray (Syntax.tyInt Syntax.w64) 2))) (List._∷_ (17, Rows'.any-gone (Syntax.tyStruct (List._∷_ 38 (List._∷_ 91 (List._∷_ 93 List.[]))) (Syntax.tcons (Syntax.tyRef Syntax.erased Syntax.mut (Syntax.tyInt Syntax.w64)) (Syntax.tcons (Syntax.tyInt Syntax.w64) Syntax.tnil)))) (List._∷_ (18, Rows'.any-gone Syntax.tyBool) (List._∷_ (19, Relend.ssptr (Referent.rtF Referent.fBool) (Syntax.tyRef Syntax.erased Syntax.imm (Syntax.tyArray Syntax.tyBool 256)) 7) (List._∷_ (20, Rows'.any-gone (Syntax.tyStruct (List._∷_ 38 (List._∷_ 91 (List._∷_ 93 List.[]))) (Syntax.tcons (Syntax.tyRef Syntax.erased Syntax.imm Syntax.tyBool) (Syntax.tcons (Syntax.tyInt Syntax.w64) Syntax.tnil)))) (List._∷_ (21, Rows'.any-gone (Syntax.tyEnum (List._∷_ 115 (List._∷_ 117 (List._∷_ 114 (List._∷_ 118 (List._∷_ 101 (List._∷_ 121 (List._∷_ 111 (List._∷_ 114 (List._∷_ 58 (List._∷_ 58 (List._∷_ 83 (List._∷_ 117 (List._∷_ 114 (List._∷_ 118 (List._∷_ 101 (List._∷_ 121 List.[])))))))))))))))) (Syntax.ttcons (Syntax.tcons (Syntax.tyEnum (List._∷_ 114 (List._∷_ 101 (List._∷_ 102 (List._∷_ 117 (List._∷_ 115 (List._∷_ 97 (List._∷_ 108 (List._∷_ 58 (List._∷_ 58 (List._∷_ 82 (List._∷_ 101 (List._∷_ 102 (List._∷_ 117 (List._∷_ 115 (List._∷_ 97 (List._∷_ 108 List.[])))))))))))))))) (Syntax.ttcons Syntax.tnil (Syntax.ttcons Syntax.tnil (Syntax.ttcons Syntax.tnil (Syntax.ttcons (Syntax.tcons (Syntax.tyStruct (List._∷_ 115 (List._∷_ 104 (List._∷_ 101 (List._∷_ 101 (List._∷_ 116 (List._∷_ 58 (List._∷_ 58 (List._∷_ 84 (List._∷_ 101 (List._∷_ 114 (List._∷_ 109 (List._∷_ 78 (List._∷_ 117 (List._∷_ 109 (List._∷_ 98 (List._∷_ 101 (List._∷_ 114 List.[]))))))))))))))))) (Syntax.tcons (Syntax.tyInt Syntax.w8) Syntax.tnil)) Syntax.tnil) (Syntax.ttcons (Syntax.tcons (Syntax.tyStruct (List._∷_ 115 (List._∷_ 104 (List._∷_ 101 (List._∷_ 101 (List._∷_ 116 (List._∷_ 58 (List._∷_ 58 (List._∷_ 69 (List._∷_ 110 (List._∷_ 116 (List._∷_ 114 (List._∷_ 121 (List._∷_ 78 (List._∷_ 117 (List._∷_ 109 (List._∷_ 98 (List._∷_ 101 (List._∷_ 114 List.[])))))))))))))))))) (Syntax.tcons (Syntax.tyInt Syntax.w8) Syntax.tnil)) Syntax.tnil) (Syntax.ttcons Syntax.tnil Syntax.ttnil))))))) Syntax.tnil) (Syntax.ttcons Syntax.tnil (Syntax.ttcons Syntax.tnil (Syntax.ttcons (Syntax.tcons (Syntax.tyInt Syntax.w8) Syntax.tnil) Syntax.ttnil)))))) (List._∷_ (22, Rows'.any-gone (Syntax.tyInt Syntax.w8)) List.[]))))))
 
 abbrev pub t26 : List.List Row.Entry
-t26 = List._∷_ (16, Rows'.any-gone (Syntax.tyRef Syntax.erased Syntax.mut (Syntax.tyArray Syntax.tyBool 256))) (List._∷_ (17, Rows'.any-gone (Syntax.tyStruct (List._∷_ 38 (List._∷_ 91 (List._∷_ 93 List.[]))) (Syntax.tcons (Syntax.tyRef Syntax.erased Syntax.mut Syntax.tyBool) (Syntax.tcons (Syntax.tyInt Syntax.w64) Syntax.tnil)))) (List._∷_ (18, Rows'.any-gone Syntax.tyBool) (List._∷_ (19, Rows'.any-gone (Syntax.tyRef Syntax.erased Syntax.imm (Syntax.tyArray Syntax.tyBool 256))) (List._∷_ (20, Rows'.sslice (Referent.rtF Referent.fBool) (Syntax.tyRef Syntax.erased Syntax.imm Syntax.tyBool) 7) (List._∷_ (21, Rows'.any-gone (Syntax.tyEnum (List._∷_ 115 (List._∷_ 117 (List._∷_ 114 (List._∷_ 118 (List._∷_ 101 (List._∷_ 121 (List._∷_ 111 (List._∷_ 114 (List._∷_ 58 (List._∷_ 58 (List._∷_ 83 (List._∷_ 117 (List._∷_ 114 (List._∷_ 118 (List._∷_ 101 (List._∷_ 121 List.[])))))))))))))))) (Syntax.ttcons (Syntax.tcons (Syntax.tyEnum (List._∷_ 114 (List._∷_ 101 (List._∷_ 102 (List._∷_ 117 (List._∷_ 115 (List._∷_ 97 (List._∷_ 108 (List._∷_ 58 (List._∷_ 58 (List._∷_ 82 (List._∷_ 101 (List._∷_ 102 (List._∷_ 117 (List._∷_ 115 (List._∷_ 97 (List._∷_ 108 List.[])))))))))))))))) (Syntax.ttcons Syntax.tnil (Syntax.ttcons Syntax.tnil (Syntax.ttcons Syntax.tnil (Syntax.ttcons (Syntax.tcons (Syntax.tyStruct (List._∷_ 115 (List._∷_ 104 (List._∷_ 101 (List._∷_ 101 (List._∷_ 116 (List._∷_ 58 (List._∷_ 58 (List._∷_ 84 (List._∷_ 101 (List._∷_ 114 (List._∷_ 109 (List._∷_ 78 (List._∷_ 117 (List._∷_ 109 (List._∷_ 98 (List._∷_ 101 (List._∷_ 114 List.[]))))))))))))))))) (Syntax.tcons (Syntax.tyInt Syntax.w8) Syntax.tnil)) Syntax.tnil) (Syntax.ttcons (Syntax.tcons (Syntax.tyStruct (List._∷_ 115 (List._∷_ 104 (List._∷_ 101 (List._∷_ 101 (List._∷_ 116 (List._∷_ 58 (List._∷_ 58 (List._∷_ 69 (List._∷_ 110 (List._∷_ 116 (List._∷_ 114 (List._∷_ 121 (List._∷_ 78 (List._∷_ 117 (List._∷_ 109 (List._∷_ 98 (List._∷_ 101 (List._∷_ 114 List.[])))))))))))))))))) (Syntax.tcons (Syntax.tyInt Syntax.w8) Syntax.tnil)) Syntax.tnil) (Syntax.ttcons Syntax.tnil Syntax.ttnil))))))) Syntax.tnil) (Syntax.ttcons Syntax.tnil (Syntax.ttcons Syntax.tnil (Syntax.ttcons (Syntax.tcons (Syntax.tyInt Syntax.w8) Syntax.tnil) Syntax.ttnil)))))) (List._∷_ (22, Rows'.any-gone (Syntax.tyInt Syntax.w8)) List.[]))))))
+t26 = List._∷_ (16, Rows'.any-gone (Syntax.tyRef Syntax.erased Syntax.mut (Syntax.tyArray (Syntax.tyInt Syntax.w64) 2))) (List._∷_ (17, Rows'.any-gone (Syntax.tyStruct (List._∷_ 38 (List._∷_ 91 (List._∷_ 93 List.[]))) (Syntax.tcons (Syntax.tyRef Syntax.erased Syntax.mut (Syntax.tyInt Syntax.w64)) (Syntax.tcons (Syntax.tyInt Syntax.w64) Syntax.tnil)))) (List._∷_ (18, Rows'.any-gone Syntax.tyBool) (List._∷_ (19, Rows'.any-gone (Syntax.tyRef Syntax.erased Syntax.imm (Syntax.tyArray Syntax.tyBool 256))) (List._∷_ (20, Rows'.sslice (Referent.rtF Referent.fBool) (Syntax.tyRef Syntax.erased Syntax.imm Syntax.tyBool) 7) (List._∷_ (21, Rows'.any-gone (Syntax.tyEnum (List._∷_ 115 (List._∷_ 117 (List._∷_ 114 (List._∷_ 118 (List._∷_ 101 (List._∷_ 121 (List._∷_ 111 (List._∷_ 114 (List._∷_ 58 (List._∷_ 58 (List._∷_ 83 (List._∷_ 117 (List._∷_ 114 (List._∷_ 118 (List._∷_ 101 (List._∷_ 121 List.[])))))))))))))))) (Syntax.ttcons (Syntax.tcons (Syntax.tyEnum (List._∷_ 114 (List._∷_ 101 (List._∷_ 102 (List._∷_ 117 (List._∷_ 115 (List._∷_ 97 (List._∷_ 108 (List._∷_ 58 (List._∷_ 58 (List._∷_ 82 (List._∷_ 101 (List._∷_ 102 (List._∷_ 117 (List._∷_ 115 (List._∷_ 97 (List._∷_ 108 List.[])))))))))))))))) (Syntax.ttcons Syntax.tnil (Syntax.ttcons Syntax.tnil (Syntax.ttcons Syntax.tnil (Syntax.ttcons (Syntax.tcons (Syntax.tyStruct (List._∷_ 115 (List._∷_ 104 (List._∷_ 101 (List._∷_ 101 (List._∷_ 116 (List._∷_ 58 (List._∷_ 58 (List._∷_ 84 (List._∷_ 101 (List._∷_ 114 (List._∷_ 109 (List._∷_ 78 (List._∷_ 117 (List._∷_ 109 (List._∷_ 98 (List._∷_ 101 (List._∷_ 114 List.[]))))))))))))))))) (Syntax.tcons (Syntax.tyInt Syntax.w8) Syntax.tnil)) Syntax.tnil) (Syntax.ttcons (Syntax.tcons (Syntax.tyStruct (List._∷_ 115 (List._∷_ 104 (List._∷_ 101 (List._∷_ 101 (List._∷_ 116 (List._∷_ 58 (List._∷_ 58 (List._∷_ 69 (List._∷_ 110 (List._∷_ 116 (List._∷_ 114 (List._∷_ 121 (List._∷_ 78 (List._∷_ 117 (List._∷_ 109 (List._∷_ 98 (List._∷_ 101 (List._∷_ 114 List.[])))))))))))))))))) (Syntax.tcons (Syntax.tyInt Syntax.w8) Syntax.tnil)) Syntax.tnil) (Syntax.ttcons Syntax.tnil Syntax.ttnil))))))) Syntax.tnil) (Syntax.ttcons Syntax.tnil (Syntax.ttcons Syntax.tnil (Syntax.ttcons (Syntax.tcons (Syntax.tyInt Syntax.w8) Syntax.tnil) Syntax.ttnil)))))) (List._∷_ (22, Rows'.any-gone (Syntax.tyInt Syntax.w8)) List.[]))))))
 
 abbrev pub t27 : List.List Row.Entry
-t27 = List._∷_ (0, Rows'.any-gone (Syntax.tyEnum (List._∷_ 115 (List._∷_ 117 (List._∷_ 114 (List._∷_ 118 (List._∷_ 101 (List._∷_ 121 (List._∷_ 111 (List._∷_ 114 (List._∷_ 58 (List._∷_ 58 (List._∷_ 83 (List._∷_ 117 (List._∷_ 114 (List._∷_ 118 (List._∷_ 101 (List._∷_ 121 List.[])))))))))))))))) (Syntax.ttcons (Syntax.tcons (Syntax.tyEnum (List._∷_ 114 (List._∷_ 101 (List._∷_ 102 (List._∷_ 117 (List._∷_ 115 (List._∷_ 97 (List._∷_ 108 (List._∷_ 58 (List._∷_ 58 (List._∷_ 82 (List._∷_ 101 (List._∷_ 102 (List._∷_ 117 (List._∷_ 115 (List._∷_ 97 (List._∷_ 108 List.[])))))))))))))))) (Syntax.ttcons Syntax.tnil (Syntax.ttcons Syntax.tnil (Syntax.ttcons Syntax.tnil (Syntax.ttcons (Syntax.tcons (Syntax.tyStruct (List._∷_ 115 (List._∷_ 104 (List._∷_ 101 (List._∷_ 101 (List._∷_ 116 (List._∷_ 58 (List._∷_ 58 (List._∷_ 84 (List._∷_ 101 (List._∷_ 114 (List._∷_ 109 (List._∷_ 78 (List._∷_ 117 (List._∷_ 109 (List._∷_ 98 (List._∷_ 101 (List._∷_ 114 List.[]))))))))))))))))) (Syntax.tcons (Syntax.tyInt Syntax.w8) Syntax.tnil)) Syntax.tnil) (Syntax.ttcons (Syntax.tcons (Syntax.tyStruct (List._∷_ 115 (List._∷_ 104 (List._∷_ 101 (List._∷_ 101 (List._∷_ 116 (List._∷_ 58 (List._∷_ 58 (List._∷_ 69 (List._∷_ 110 (List._∷_ 116 (List._∷_ 114 (List._∷_ 121 (List._∷_ 78 (List._∷_ 117 (List._∷_ 109 (List._∷_ 98 (List._∷_ 101 (List._∷_ 114 List.[])))))))))))))))))) (Syntax.tcons (Syntax.tyInt Syntax.w8) Syntax.tnil)) Syntax.tnil) (Syntax.ttcons Syntax.tnil Syntax.ttnil))))))) Syntax.tnil) (Syntax.ttcons Syntax.tnil (Syntax.ttcons Syntax.tnil (Syntax.ttcons (Syntax.tcons (Syntax.tyInt Syntax.w8) Syntax.tnil) Syntax.ttnil)))))) (List._∷_ (1, Rows'.sslice (Referent.rtF (Referent.fInt Syntax.w8)) (Syntax.tyRef (Syntax.named 0) Syntax.imm (Syntax.tyInt Syntax.w8)) 0) (List._∷_ (2, Rows'.sslice (Referent.rtF Referent.fBool) (Syntax.tyRef (Syntax.named 1) Syntax.imm Syntax.tyBool) 1) (List._∷_ (3, Rows'.sslice (Referent.rtF (Referent.fInt Syntax.w64)) (Syntax.tyRef (Syntax.named 2) Syntax.imm (Syntax.tyInt Syntax.w64)) 2) (List._∷_ (4, Rows'.sslice (Referent.rtF (Referent.fInt Syntax.w64)) (Syntax.tyRef (Syntax.named 3) Syntax.imm (Syntax.tyInt Syntax.w64)) 3) (List._∷_ (5, Rows'.sslice (Struct″.row StepT.the-type) (Syntax.tyRef (Syntax.named 4) Syntax.imm (Memory″.pointee ((Struct″.row StepT.the-type) .written))) 4) (List._∷_ (6, Rows'.sc-here (Row.sInt Syntax.w64)) (List._∷_ (7, Rows.arr-shr (Referent.rtF Referent.fBool) 256 7) (List._∷_ (8, Rows'.any-gone (Syntax.tyArray Syntax.tyBool 256)) (List._∷_ (9, Rows'.sc-here (Row.sInt Syntax.w64)) (List._∷_ (10, Rows'.any-gone (Syntax.tyInt Syntax.w64)) (List._∷_ (11, Rows'.any-gone Syntax.tyBool) (List._∷_ (12, Rows'.any-gone (Syntax.tyInt Syntax.w8)) (List._∷_ (13, Rows'.any-gone Syntax.tyUnit) (List._∷_ (14, Rows'.any-gone (Syntax.tyRef Syntax.erased Syntax.mut (Syntax.tyArray Syntax.tyBool 256))) (List._∷_ (15, Rows'.any-gone (Syntax.tyStruct (List._∷_ 38 (List._∷_ 91 (List._∷_ 93 List.[]))) (Syntax.tcons (Syntax.tyRef Syntax.erased Syntax.mut Syntax.tyBool) (Syntax.tcons (Syntax.tyInt Syntax.w64) Syntax.tnil)))) List.[])))))))))))))))
+t27 = List._∷_ (0, Rows'.any-gone (Syntax.tyEnum (List._∷_ 115 (List._∷_ 117 (List._∷_ 114 (List._∷_ 118 (List._∷_ 101 (List._∷_ 121 (List._∷_ 111 (List._∷_ 114 (List._∷_ 58 (List._∷_ 58 (List._∷_ 83 (List._∷_ 117 (List._∷_ 114 (List._∷_ 118 (List._∷_ 101 (List._∷_ 121 List.[])))))))))))))))) (Syntax.ttcons (Syntax.tcons (Syntax.tyEnum (List._∷_ 114 (List._∷_ 101 (List._∷_ 102 (List._∷_ 117 (List._∷_ 115 (List._∷_ 97 (List._∷_ 108 (List._∷_ 58 (List._∷_ 58 (List._∷_ 82 (List._∷_ 101 (List._∷_ 102 (List._∷_ 117 (List._∷_ 115 (List._∷_ 97 (List._∷_ 108 List.[])))))))))))))))) (Syntax.ttcons Syntax.tnil (Syntax.ttcons Syntax.tnil (Syntax.ttcons Syntax.tnil (Syntax.ttcons (Syntax.tcons (Syntax.tyStruct (List._∷_ 115 (List._∷_ 104 (List._∷_ 101 (List._∷_ 101 (List._∷_ 116 (List._∷_ 58 (List._∷_ 58 (List._∷_ 84 (List._∷_ 101 (List._∷_ 114 (List._∷_ 109 (List._∷_ 78 (List._∷_ 117 (List._∷_ 109 (List._∷_ 98 (List._∷_ 101 (List._∷_ 114 List.[]))))))))))))))))) (Syntax.tcons (Syntax.tyInt Syntax.w8) Syntax.tnil)) Syntax.tnil) (Syntax.ttcons (Syntax.tcons (Syntax.tyStruct (List._∷_ 115 (List._∷_ 104 (List._∷_ 101 (List._∷_ 101 (List._∷_ 116 (List._∷_ 58 (List._∷_ 58 (List._∷_ 69 (List._∷_ 110 (List._∷_ 116 (List._∷_ 114 (List._∷_ 121 (List._∷_ 78 (List._∷_ 117 (List._∷_ 109 (List._∷_ 98 (List._∷_ 101 (List._∷_ 114 List.[])))))))))))))))))) (Syntax.tcons (Syntax.tyInt Syntax.w8) Syntax.tnil)) Syntax.tnil) (Syntax.ttcons Syntax.tnil Syntax.ttnil))))))) Syntax.tnil) (Syntax.ttcons Syntax.tnil (Syntax.ttcons Syntax.tnil (Syntax.ttcons (Syntax.tcons (Syntax.tyInt Syntax.w8) Syntax.tnil) Syntax.ttnil)))))) (List._∷_ (1, Rows'.sslice (Referent.rtF (Referent.fInt Syntax.w8)) (Syntax.tyRef (Syntax.named 0) Syntax.imm (Syntax.tyInt Syntax.w8)) 0) (List._∷_ (2, Rows'.sslice (Referent.rtF Referent.fBool) (Syntax.tyRef (Syntax.named 1) Syntax.imm Syntax.tyBool) 1) (List._∷_ (3, Rows'.sslice (Referent.rtF (Referent.fInt Syntax.w64)) (Syntax.tyRef (Syntax.named 2) Syntax.imm (Syntax.tyInt Syntax.w64)) 2) (List._∷_ (4, Rows'.sslice (Referent.rtF (Referent.fInt Syntax.w64)) (Syntax.tyRef (Syntax.named 3) Syntax.imm (Syntax.tyInt Syntax.w64)) 3) (List._∷_ (5, Rows'.sslice (Struct″.row StepT.the-type) (Syntax.tyRef (Syntax.named 4) Syntax.imm (Memory″.pointee ((Struct″.row StepT.the-type) .written))) 4) (List._∷_ (6, Rows'.sc-here (Row.sInt Syntax.w64)) (List._∷_ (7, Rows.arr-shr (Referent.rtF Referent.fBool) 256 7) (List._∷_ (8, Rows'.any-gone (Syntax.tyArray (Syntax.tyInt Syntax.w64) 2)) (List._∷_ (9, Rows'.sc-here (Row.sInt Syntax.w64)) (List._∷_ (10, Rows'.any-gone (Syntax.tyInt Syntax.w64)) (List._∷_ (11, Rows'.any-gone Syntax.tyBool) (List._∷_ (12, Rows'.any-gone (Syntax.tyInt Syntax.w8)) (List._∷_ (13, Rows'.any-gone Syntax.tyUnit) (List._∷_ (14, Rows'.any-gone (Syntax.tyRef Syntax.erased Syntax.mut (Syntax.tyArray Syntax.tyBool 256))) (List._∷_ (15, Rows'.any-gone (Syntax.tyStruct (List._∷_ 38 (List._∷_ 91 (List._∷_ 93 List.[]))) (Syntax.tcons (Syntax.tyRef Syntax.erased Syntax.mut Syntax.tyBool) (Syntax.tcons (Syntax.tyInt Syntax.w64) Syntax.tnil)))) List.[])))))))))))))))
 
 abbrev pub t28 : List.List Row.Entry
-t28 = List._∷_ (16, Rows'.any-gone (Syntax.tyRef Syntax.erased Syntax.mut (Syntax.tyArray Syntax.tyBool 256))) (List._∷_ (17, Rows'.any-gone (Syntax.tyStruct (List._∷_ 38 (List._∷_ 91 (List._∷_ 93 List.[]))) (Syntax.tcons (Syntax.tyRef Syntax.erased Syntax.mut Syntax.tyBool) (Syntax.tcons (Syntax.tyInt Syntax.w64) Syntax.tnil)))) (List._∷_ (18, Rows'.sc-here Row.sBool) (List._∷_ (19, Rows'.any-gone (Syntax.tyRef Syntax.erased Syntax.imm (Syntax.tyArray Syntax.tyBool 256))) (List._∷_ (20, Rows'.sslice (Referent.rtF Referent.fBool) (Syntax.tyRef Syntax.erased Syntax.imm Syntax.tyBool) 7) (List._∷_ (21, Rows'.any-gone (Syntax.tyEnum (List._∷_ 115 (List._∷_ 117 (List._∷_ 114 (List._∷_ 118 (List._∷_ 101 (List._∷_ 121 (List._∷_ 111 (List._∷_ 114 (List._∷_ 58 (List._∷_ 58 (List._∷_ 83 (List._∷_ 117 (List._∷_ 114 (List._∷_ 118 (List._∷_ 101 (List._∷_ 121 List.[])))))))))))))))) (Syntax.ttcons (Syntax.tcons (Syntax.tyEnum (List._∷_ 114 (List._∷_ 101 (List._∷_ 102 (List._∷_ 117 (List._∷_ 115 (List._∷_ 97 (List._∷_ 108 (List._∷_ 58 (List._∷_ 58 (List._∷_ 82 (List._∷_ 101 (List._∷_ 102 (List._∷_ 117 (List._∷_ 115 (List._∷_ 97 (List._∷_ 108 List.[])))))))))))))))) (Syntax.ttcons Syntax.tnil (Syntax.ttcons Syntax.tnil (Syntax.ttcons Syntax.tnil (Syntax.ttcons (Syntax.tcons (Syntax.tyStruct (List._∷_ 115 (List._∷_ 104 (List._∷_ 101 (List._∷_ 101 (List._∷_ 116 (List._∷_ 58 (List._∷_ 58 (List._∷_ 84 (List._∷_ 101 (List._∷_ 114 (List._∷_ 109 (List._∷_ 78 (List._∷_ 117 (List._∷_ 109 (List._∷_ 98 (List._∷_ 101 (List._∷_ 114 List.[]))))))))))))))))) (Syntax.tcons (Syntax.tyInt Syntax.w8) Syntax.tnil)) Syntax.tnil) (Syntax.ttcons (Syntax.tcons (Syntax.tyStruct (List._∷_ 115 (List._∷_ 104 (List._∷_ 101 (List._∷_ 101 (List._∷_ 116 (List._∷_ 58 (List._∷_ 58 (List._∷_ 69 (List._∷_ 110 (List._∷_ 116 (List._∷_ 114 (List._∷_ 121 (List._∷_ 78 (List._∷_ 117 (List._∷_ 109 (List._∷_ 98 (List._∷_ 101 (List._∷_ 114 List.[])))))))))))))))))) (Syntax.tcons (Syntax.tyInt Syntax.w8) Syntax.tnil)) Syntax.tnil) (Syntax.ttcons Syntax.tnil Syntax.ttnil))))))) Syntax.tnil) (Syntax.ttcons Syntax.tnil (Syntax.ttcons Syntax.tnil (Syntax.ttcons (Syntax.tcons (Syntax.tyInt Syntax.w8) Syntax.tnil) Syntax.ttnil)))))) (List._∷_ (22, Rows'.any-gone (Syntax.tyInt Syntax.w8)) List.[]))))))
+t28 = List._∷_ (16, Rows'.any-gone (Syntax.tyRef Syntax.erased Syntax.mut (Syntax.tyArray (Syntax.tyInt Syntax.w64) 2))) (List._∷_ (17, Rows'.any-gone (Syntax.tyStruct (List._∷_ 38 (List._∷_ 91 (List._∷_ 93 List.[]))) (Syntax.tcons (Syntax.tyRef Syntax.erased Syntax.mut (Syntax.tyInt Syntax.w64)) (Syntax.tcons (Syntax.tyInt Syntax.w64) Syntax.tnil)))) (List._∷_ (18, Rows'.sc-here Row.sBool) (List._∷_ (19, Rows'.any-gone (Syntax.tyRef Syntax.erased Syntax.imm (Syntax.tyArray Syntax.tyBool 256))) (List._∷_ (20, Rows'.sslice (Referent.rtF Referent.fBool) (Syntax.tyRef Syntax.erased Syntax.imm Syntax.tyBool) 7) (List._∷_ (21, Rows'.any-gone (Syntax.tyEnum (List._∷_ 115 (List._∷_ 117 (List._∷_ 114 (List._∷_ 118 (List._∷_ 101 (List._∷_ 121 (List._∷_ 111 (List._∷_ 114 (List._∷_ 58 (List._∷_ 58 (List._∷_ 83 (List._∷_ 117 (List._∷_ 114 (List._∷_ 118 (List._∷_ 101 (List._∷_ 121 List.[])))))))))))))))) (Syntax.ttcons (Syntax.tcons (Syntax.tyEnum (List._∷_ 114 (List._∷_ 101 (List._∷_ 102 (List._∷_ 117 (List._∷_ 115 (List._∷_ 97 (List._∷_ 108 (List._∷_ 58 (List._∷_ 58 (List._∷_ 82 (List._∷_ 101 (List._∷_ 102 (List._∷_ 117 (List._∷_ 115 (List._∷_ 97 (List._∷_ 108 List.[])))))))))))))))) (Syntax.ttcons Syntax.tnil (Syntax.ttcons Syntax.tnil (Syntax.ttcons Syntax.tnil (Syntax.ttcons (Syntax.tcons (Syntax.tyStruct (List._∷_ 115 (List._∷_ 104 (List._∷_ 101 (List._∷_ 101 (List._∷_ 116 (List._∷_ 58 (List._∷_ 58 (List._∷_ 84 (List._∷_ 101 (List._∷_ 114 (List._∷_ 109 (List._∷_ 78 (List._∷_ 117 (List._∷_ 109 (List._∷_ 98 (List._∷_ 101 (List._∷_ 114 List.[]))))))))))))))))) (Syntax.tcons (Syntax.tyInt Syntax.w8) Syntax.tnil)) Syntax.tnil) (Syntax.ttcons (Syntax.tcons (Syntax.tyStruct (List._∷_ 115 (List._∷_ 104 (List._∷_ 101 (List._∷_ 101 (List._∷_ 116 (List._∷_ 58 (List._∷_ 58 (List._∷_ 69 (List._∷_ 110 (List._∷_ 116 (List._∷_ 114 (List._∷_ 121 (List._∷_ 78 (List._∷_ 117 (List._∷_ 109 (List._∷_ 98 (List._∷_ 101 (List._∷_ 114 List.[])))))))))))))))))) (Syntax.tcons (Syntax.tyInt Syntax.w8) Syntax.tnil)) Syntax.tnil) (Syntax.ttcons Syntax.tnil Syntax.ttnil))))))) Syntax.tnil) (Syntax.ttcons Syntax.tnil (Syntax.ttcons Syntax.tnil (Syntax.ttcons (Syntax.tcons (Syntax.tyInt Syntax.w8) Syntax.tnil) Syntax.ttnil)))))) (List._∷_ (22, Rows'.any-gone (Syntax.tyInt Syntax.w8)) List.[]))))))
 
 abbrev pub t29 : List.List Row.Entry
-t29 = List._∷_ (16, Rows'.any-gone (Syntax.tyRef Syntax.erased Syntax.mut (Syntax.tyArray Syntax.tyBool 256))) (List._∷_ (17, Rows'.any-gone (Syntax.tyStruct (List._∷_ 38 (List._∷_ 91 (List._∷_ 93 List.[]))) (Syntax.tcons (Syntax.tyRef Syntax.erased Syntax.mut Syntax.tyBool) (Syntax.tcons (Syntax.tyInt Syntax.w64) Syntax.tnil)))) (List._∷_ (18, Rows'.any-gone Syntax.tyBool) (List._∷_ (19, Rows'.any-gone (Syntax.tyRef Syntax.erased Syntax.imm (Syntax.tyArray Syntax.tyBool 256))) (List._∷_ (20, Rows'.any-gone (Syntax.tyStruct (List._∷_ 38 (List._∷_ 91 (List._∷_ 93 List.[]))) (Syntax.tcons (Syntax.tyRef Syntax.erased Syntax.imm Syntax.tyBool) (Syntax.tcons (Syntax.tyInt Syntax.w64) Syntax.tnil)))) (List._∷_ (21, Rows'.whole (Declared.row Survey.the-type)) (List._∷_ (22, Rows'.any-gone (Syntax.tyInt Syntax.w8)) List.[]))))))
+t29 = List._∷_ (16, Rows'.any-gone (Syntax.tyRef Syntax.erased Syntax.mut (Syntax.tyArray (Syntax.tyInt Syntax.w64) 2))) (List._∷_ (17, Rows'.any-gone (Syntax.tyStruct (List._∷_ 38 (List._∷_ 91 (List._∷_ 93 List.[]))) (Syntax.tcons (Syntax.tyRef Syntax.erased Syntax.mut (Syntax.tyInt Syntax.w64)) (Syntax.tcons (Syntax.tyInt Syntax.w64) Syntax.tnil)))) (List._∷_ (18, Rows'.any-gone Syntax.tyBool) (List._∷_ (19, Rows'.any-gone (Syntax.tyRef Syntax.erased Syntax.imm (Syntax.tyArray Syntax.tyBool 256))) (List._∷_ (20, Rows'.any-gone (Syntax.tyStruct (List._∷_ 38 (List._∷_ 91 (List._∷_ 93 List.[]))) (Syntax.tcons (Syntax.tyRef Syntax.erased Syntax.imm Syntax.tyBool) (Syntax.tcons (Syntax.tyInt Syntax.w64) Syntax.tnil)))) (List._∷_ (21, Rows'.whole (Declared.row Survey.the-type)) (List._∷_ (22, Rows'.any-gone (Syntax.tyInt Syntax.w8)) List.[]))))))
 
 abbrev pub t30 : List.List Row.Entry
-t30 = List._∷_ (16, Rows'.any-gone (Syntax.tyRef Syntax.erased Syntax.mut (Syntax.tyArray Syntax.tyBool 256))) (List._∷_ (17, Rows'.any-gone (Syntax.tyStruct (List._∷_ 38 (List._∷_ 91 (List._∷_ 93 List.[]))) (Syntax.tcons (Syntax.tyRef Syntax.erased Syntax.mut Syntax.tyBool) (Syntax.tcons (Syntax.tyInt Syntax.w64) Syntax.tnil)))) (List._∷_ (18, Rows'.sc-here Row.sBool) (List._∷_ (19, Rows'.any-gone (Syntax.tyRef Syntax.erased Syntax.imm (Syntax.tyArray Syntax.tyBool 256))) (List._∷_ (20, Rows'.any-gone (Syntax.tyStruct (List._∷_ 38 (List._∷_ 91 (List._∷_ 93 List.[]))) (Syntax.tcons (Syntax.tyRef Syntax.erased Syntax.imm Syntax.tyBool) (Syntax.tcons (Syntax.tyInt Syntax.w64) Syntax.tnil)))) (List._∷_ (21, Rows'.any-gone (Syntax.tyEnum (List._∷_ 115 (List._∷_ 117 (List._∷_ 114 (List._∷_ 118 (List._∷_ 101 (List._∷_ 121 (List._∷_ 111 (List._∷_ 114 (List._∷_ 58 (List._∷_ 58 (List._∷_ 83 (List._∷_ 117 (List._∷_ 114 (List._∷_ 118 (List._∷_ 101 (List._∷_ 121 List.[])))))))))))))))) (Syntax.ttcons (Syntax.tcons (Syntax.tyEnum (List._∷_ 114 (List._∷_ 101 (List._∷_ 102 (List._∷_ 117 (List._∷_ 115 (List._∷_ 97 (List._∷_ 108 (List._∷_ 58 (List._∷_ 58 (List._∷_ 82 (List._∷_ 101 (List._∷_ 102 (List._∷_ 117 (List._∷_ 115 (List._∷_ 97 (List._∷_ 108 List.[])))))))))))))))) (Syntax.ttcons Syntax.tnil (Syntax.ttcons Syntax.tnil (Syntax.ttcons Syntax.tnil (Syntax.ttcons (Syntax.tcons (Syntax.tyStruct (List._∷_ 115 (List._∷_ 104 (List._∷_ 101 (List._∷_ 101 (List._∷_ 116 (List._∷_ 58 (List._∷_ 58 (List._∷_ 84 (List._∷_ 101 (List._∷_ 114 (List._∷_ 109 (List._∷_ 78 (List._∷_ 117 (List._∷_ 109 (List._∷_ 98 (List._∷_ 101 (List._∷_ 114 List.[]))))))))))))))))) (Syntax.tcons (Syntax.tyInt Syntax.w8) Syntax.tnil)) Syntax.tnil) (Syntax.ttcons (Syntax.tcons (Syntax.tyStruct (List._∷_ 115 (List._∷_ 104 (List._∷_ 101 (List._∷_ 101 (List._∷_ 116 (List._∷_ 58 (List._∷_ 58 (List._∷_ 69 (List._∷_ 110 (List._∷_ 116 (List._∷_ 114 (List._∷_ 121 (List._∷_ 78 (List._∷_ 117 (List._∷_ 109 (List._∷_ 98 (List._∷_ 101 (List._∷_ 114 List.[])))))))))))))))))) (Syntax.tcons (Syntax.tyInt Syntax.w8) Syntax.tnil)) Syntax.tnil) (Syntax.ttcons Syntax.tnil Syntax.ttnil))))))) Syntax.tnil) (Syntax.ttcons Syntax.tnil (Syntax.ttcons Syntax.tnil (Syntax.ttcons (Syntax.tcons (Syntax.tyInt Syntax.w8) Syntax.tnil) Syntax.ttnil)))))) (List._∷_ (22, Rows'.any-gone (Syntax.tyInt Syntax.w8)) List.[]))))))
+t30 = List._∷_ (16, Rows'.any-gone (Syntax.tyRef Syntax.erased Syntax.mut (Syntax.tyArray (Syntax.tyInt Syntax.w64) 2))) (List._∷_ (17, Rows'.any-gone (Syntax.tyStruct (List._∷_ 38 (List._∷_ 91 (List._∷_ 93 List.[]))) (Syntax.tcons (Syntax.tyRef Syntax.erased Syntax.mut (Syntax.tyInt Syntax.w64)) (Syntax.tcons (Syntax.tyInt Syntax.w64) Syntax.tnil)))) (List._∷_ (18, Rows'.sc-here Row.sBool) (List._∷_ (19, Rows'.any-gone (Syntax.tyRef Syntax.erased Syntax.imm (Syntax.tyArray Syntax.tyBool 256))) (List._∷_ (20, Rows'.any-gone (Syntax.tyStruct (List._∷_ 38 (List._∷_ 91 (List._∷_ 93 List.[]))) (Syntax.tcons (Syntax.tyRef Syntax.erased Syntax.imm Syntax.tyBool) (Syntax.tcons (Syntax.tyInt Syntax.w64) Syntax.tnil)))) (List._∷_ (21, Rows'.any-gone (Syntax.tyEnum (List._∷_ 115 (List._∷_ 117 (List._∷_ 114 (List._∷_ 118 (List._∷_ 101 (List._∷_ 121 (List._∷_ 111 (List._∷_ 114 (List._∷_ 58 (List._∷_ 58 (List._∷_ 83 (List._∷_ 117 (List._∷_ 114 (List._∷_ 118 (List._∷_ 101 (List._∷_ 121 List.[])))))))))))))))) (Syntax.ttcons (Syntax.tcons (Syntax.tyEnum (List._∷_ 114 (List._∷_ 101 (List._∷_ 102 (List._∷_ 117 (List._∷_ 115 (List._∷_ 97 (List._∷_ 108 (List._∷_ 58 (List._∷_ 58 (List._∷_ 82 (List._∷_ 101 (List._∷_ 102 (List._∷_ 117 (List._∷_ 115 (List._∷_ 97 (List._∷_ 108 List.[])))))))))))))))) (Syntax.ttcons Syntax.tnil (Syntax.ttcons Syntax.tnil (Syntax.ttcons Syntax.tnil (Syntax.ttcons (Syntax.tcons (Syntax.tyStruct (List._∷_ 115 (List._∷_ 104 (List._∷_ 101 (List._∷_ 101 (List._∷_ 116 (List._∷_ 58 (List._∷_ 58 (List._∷_ 84 (List._∷_ 101 (List._∷_ 114 (List._∷_ 109 (List._∷_ 78 (List._∷_ 117 (List._∷_ 109 (List._∷_ 98 (List._∷_ 101 (List._∷_ 114 List.[]))))))))))))))))) (Syntax.tcons (Syntax.tyInt Syntax.w8) Syntax.tnil)) Syntax.tnil) (Syntax.ttcons (Syntax.tcons (Syntax.tyStruct (List._∷_ 115 (List._∷_ 104 (List._∷_ 101 (List._∷_ 101 (List._∷_ 116 (List._∷_ 58 (List._∷_ 58 (List._∷_ 69 (List._∷_ 110 (List._∷_ 116 (List._∷_ 114 (List._∷_ 121 (List._∷_ 78 (List._∷_ 117 (List._∷_ 109 (List._∷_ 98 (List._∷_ 101 (List._∷_ 114 List.[])))))))))))))))))) (Syntax.tcons (Syntax.tyInt Syntax.w8) Syntax.tnil)) Syntax.tnil) (Syntax.ttcons Syntax.tnil Syntax.ttnil))))))) Syntax.tnil) (Syntax.ttcons Syntax.tnil (Syntax.ttcons Syntax.tnil (Syntax.ttcons (Syntax.tcons (Syntax.tyInt Syntax.w8) Syntax.tnil) Syntax.ttnil)))))) (List._∷_ (22, Rows'.any-gone (Syntax.tyInt Syntax.w8)) List.[]))))))
 
 abbrev pub t31 : List.List Row.Entry
-t31 = List._∷_ (16, Rows'.any-gone (Syntax.tyRef Syntax.erased Syntax.mut (Syntax.tyArray Syntax.tyBool 256))) (List._∷_ (17, Rows'.any-gone (Syntax.tyStruct (List._∷_ 38 (List._∷_ 91 (List._∷_ 93 List.[]))) (Syntax.tcons (Syntax.tyRef Syntax.erased Syntax.mut Syntax.tyBool) (Syntax.tcons (Syntax.tyInt Syntax.w64) Syntax.tnil)))) (List._∷_ (18, Rows'.any-gone Syntax.tyBool) (List._∷_ (19, Rows'.any-gone (Syntax.tyRef Syntax.erased Syntax.imm (Syntax.tyArray Syntax.tyBool 256))) (List._∷_ (20, Rows'.any-gone (Syntax.tyStruct (List._∷_ 38 (List._∷_ 91 (List._∷_ 93 List.[]))) (Syntax.tcons (Syntax.tyRef Syntax.erased Syntax.imm Syntax.tyBool) (Syntax.tcons (Syntax.tyInt Syntax.w64) Syntax.tnil)))) (List._∷_ (21, Rows'.any-gone (Syntax.tyEnum (List._∷_ 115 (List._∷_ 117 (List._∷_ 114 (List._∷_ 118 (List._∷_ 101 (List._∷_ 121 (List._∷_ 111 (List._∷_ 114 (List._∷_ 58 (List._∷_ 58 (List._∷_ 83 (List._∷_ 117 (List._∷_ 114 (List._∷_ 118 (List._∷_ 101 (List._∷_ 121 List.[])))))))))))))))) (Syntax.ttcons (Syntax.tcons (Syntax.tyEnum (List._∷_ 114 (List._∷_ 101 (List._∷_ 102 (List._∷_ 117 (List._∷_ 115 (List._∷_ 97 (List._∷_ 108 (List._∷_ 58 (List._∷_ 58 (List._∷_ 82 (List._∷_ 101 (List._∷_ 102 (List._∷_ 117 (List._∷_ 115 (List._∷_ 97 (List._∷_ 108 List.[])))))))))))))))) (Syntax.ttcons Syntax.tnil (Syntax.ttcons Syntax.tnil (Syntax.ttcons Syntax.tnil (Syntax.ttcons (Syntax.tcons (Syntax.tyStruct (List._∷_ 115 (List._∷_ 104 (List._∷_ 101 (List._∷_ 101 (List._∷_ 116 (List._∷_ 58 (List._∷_ 58 (List._∷_ 84 (List._∷_ 101 (List._∷_ 114 (List._∷_ 109 (List._∷_ 78 (List._∷_ 117 (List._∷_ 109 (List._∷_ 98 (List._∷_ 101 (List._∷_ 114 List.[]))))))))))))))))) (Syntax.tcons (Syntax.tyInt Syntax.w8) Syntax.tnil)) Syntax.tnil) (Syntax.ttcons (Syntax.tcons (Syntax.tyStruct (List._∷_ 115 (List._∷_ 104 (List._∷_ 101 (List._∷_ 101 (List._∷_ 116 (List._∷_ 58 (List._∷_ 58 (List._∷_ 69 (List._∷_ 110 (List._∷_ 116 (List._∷_ 114 (List._∷_ 121 (List._∷_ 78 (List._∷_ 117 (List._∷_ 109 (List._∷_ 98 (List._∷_ 101 (List._∷_ 114 List.[])))))))))))))))))) (Syntax.tcons (Syntax.tyInt Syntax.w8) Syntax.tnil)) Syntax.tnil) (Syntax.ttcons Syntax.tnil Syntax.ttnil))))))) Syntax.tnil) (Syntax.ttcons Syntax.tnil (Syntax.ttcons Syntax.tnil (Syntax.ttcons (Syntax.tcons (Syntax.tyInt Syntax.w8) Syntax.tnil) Syntax.ttnil)))))) (List._∷_ (22, Rows'.sc-here (Row.sInt Syntax.w8)) List.[]))))))
+t31 = List._∷_ (16, Rows'.any-gone (Syntax.tyRef Syntax.erased Syntax.mut (Syntax.tyArray (Syntax.tyInt Syntax.w64) 2))) (List._∷_ (17, Rows'.any-gone (Syntax.tyStruct (List._∷_ 38 (List._∷_ 91 (List._∷_ 93 List.[]))) (Syntax.tcons (Syntax.tyRef Syntax.erased Syntax.mut (Syntax.tyInt Syntax.w64)) (Syntax.tcons (Syntax.tyInt Syntax.w64) Syntax.tnil)))) (List._∷_ (18, Rows'.any-gone Syntax.tyBool) (List._∷_ (19, Rows'.any-gone (Syntax.tyRef Syntax.erased Syntax.imm (Syntax.tyArray Syntax.tyBool 256))) (List._∷_ (20, Rows'.any-gone (Syntax.tyStruct (List._∷_ 38 (List._∷_ 91 (List._∷_ 93 List.[]))) (Syntax.tcons (Syntax.tyRef Syntax.erased Syntax.imm Syntax.tyBool) (Syntax.tcons (Syntax.tyInt Syntax.w64) Syntax.tnil)))) (List._∷_ (21, Rows'.any-gone (Syntax.tyEnum (List._∷_ 115 (List._∷_ 117 (List._∷_ 114 (List._∷_ 118 (List._∷_ 101 (List._∷_ 121 (List._∷_ 111 (List._∷_ 114 (List._∷_ 58 (List._∷_ 58 (List._∷_ 83 (List._∷_ 117 (List._∷_ 114 (List._∷_ 118 (List._∷_ 101 (List._∷_ 121 List.[])))))))))))))))) (Syntax.ttcons (Syntax.tcons (Syntax.tyEnum (List._∷_ 114 (List._∷_ 101 (List._∷_ 102 (List._∷_ 117 (List._∷_ 115 (List._∷_ 97 (List._∷_ 108 (List._∷_ 58 (List._∷_ 58 (List._∷_ 82 (List._∷_ 101 (List._∷_ 102 (List._∷_ 117 (List._∷_ 115 (List._∷_ 97 (List._∷_ 108 List.[])))))))))))))))) (Syntax.ttcons Syntax.tnil (Syntax.ttcons Syntax.tnil (Syntax.ttcons Syntax.tnil (Syntax.ttcons (Syntax.tcons (Syntax.tyStruct (List._∷_ 115 (List._∷_ 104 (List._∷_ 101 (List._∷_ 101 (List._∷_ 116 (List._∷_ 58 (List._∷_ 58 (List._∷_ 84 (List._∷_ 101 (List._∷_ 114 (List._∷_ 109 (List._∷_ 78 (List._∷_ 117 (List._∷_ 109 (List._∷_ 98 (List._∷_ 101 (List._∷_ 114 List.[]))))))))))))))))) (Syntax.tcons (Syntax.tyInt Syntax.w8) Syntax.tnil)) Syntax.tnil) (Syntax.ttcons (Syntax.tcons (Syntax.tyStruct (List._∷_ 115 (List._∷_ 104 (List._∷_ 101 (List._∷_ 101 (List._∷_ 116 (List._∷_ 58 (List._∷_ 58 (List._∷_ 69 (List._∷_ 110 (List._∷_ 116 (List._∷_ 114 (List._∷_ 121 (List._∷_ 78 (List._∷_ 117 (List._∷_ 109 (List._∷_ 98 (List._∷_ 101 (List._∷_ 114 List.[])))))))))))))))))) (Syntax.tcons (Syntax.tyInt Syntax.w8) Syntax.tnil)) Syntax.tnil) (Syntax.ttcons Syntax.tnil Syntax.ttnil))))))) Syntax.tnil) (Syntax.ttcons Syntax.tnil (Syntax.ttcons Syntax.tnil (Syntax.ttcons (Syntax.tcons (Syntax.tyInt Syntax.w8) Syntax.tnil) Syntax.ttnil)))))) (List._∷_ (22, Rows'.sc-here (Row.sInt Syntax.w8)) List.[]))))))
 
 abbrev pub t32 : List.List Row.Entry
-t32 = List._∷_ (16, Rows'.any-gone (Syntax.tyRef Syntax.erased Syntax.mut (Syntax.tyArray Syntax.tyBool 256))) (List._∷_ (17, Rows'.any-gone (Syntax.tyStruct (List._∷_ 38 (List._∷_ 91 (List._∷_ 93 List.[]))) (Syntax.tcons (Syntax.tyRef Syntax.erased Syntax.mut Syntax.tyBool) (Syntax.tcons (Syntax.tyInt Syntax.w64) Syntax.tnil)))) (List._∷_ (18, Rows'.any-gone Syntax.tyBool) (List._∷_ (19, Rows'.any-gone (Syntax.tyRef Syntax.erased Syntax.imm (Syntax.tyArray Syntax.tyBool 256))) (List._∷_ (20, Rows'.any-gone (Syntax.tyStruct (List._∷_ 38 (List._∷_ 91 (List._∷_ 93 List.[]))) (Syntax.tcons (Syntax.tyRef Syntax.erased Syntax.imm Syntax.tyBool) (Syntax.tcons (Syntax.tyInt Syntax.w64) Syntax.tnil)))) (List._∷_ (21, Rows'.whole (Declared.row Survey.the-type)) (List._∷_ (22, Rows'.sc-here (Row.sInt Syntax.w8)) List.[]))))))
+t32 = List._∷_ (16, Rows'.any-gone (Syntax.tyRef Syntax.erased Syntax.mut (Syntax.tyArray (Syntax.tyInt Syntax.w64) 2))) (List._∷_ (17, Rows'.any-gone (Syntax.tyStruct (List._∷_ 38 (List._∷_ 91 (List._∷_ 93 List.[]))) (Syntax.tcons (Syntax.tyRef Syntax.erased Syntax.mut (Syntax.tyInt Syntax.w64)) (Syntax.tcons (Syntax.tyInt Syntax.w64) Syntax.tnil)))) (List._∷_ (18, Rows'.any-gone Syntax.tyBool) (List._∷_ (19, Rows'.any-gone (Syntax.tyRef Syntax.erased Syntax.imm (Syntax.tyArray Syntax.tyBool 256))) (List._∷_ (20, Rows'.any-gone (Syntax.tyStruct (List._∷_ 38 (List._∷_ 91 (List._∷_ 93 List.[]))) (Syntax.tcons (Syntax.tyRef Syntax.erased Syntax.imm Syntax.tyBool) (Syntax.tcons (Syntax.tyInt Syntax.w64) Syntax.tnil)))) (List._∷_ (21, Rows'.whole (Declared.row Survey.the-type)) (List._∷_ (22, Rows'.sc-here (Row.sInt Syntax.w8)) List.[]))))))
 
 abbrev pub T0 : Row.Cx
 T0 = record { locals = List._++_ t0 t1; slots = List.[] }
@@ -555,10 +555,10 @@ module _ (claims· : Claims) where
   s16 = λ bs. AtSlots.n-as-by T18 7 (Rows.arrF (Referent.rtF Referent.fBool) 256 0) λ x. x
 
   abbrev s17 : (bs : List.List Nat.ℕ) → Typed.Mo T19 → Typed.Mo T20
-  s17 = λ bs. Repeat.n-repeat (Referent.rtF Referent.fBool) 256 T19 8 λ m. Bool'.false
+  s17 = λ bs. Repeat.n-repeat (Referent.rtF (Referent.fInt Syntax.w64)) 2 T19 8 λ m. 0
 
   abbrev s18 : (bs : List.List Nat.ℕ) → Typed.Mo T20 → Typed.Mo T21
-  s18 = λ bs. AtSlots.n-as-by T20 8 (Rows.arrF (Referent.rtF Referent.fBool) 256 0) λ x. x
+  s18 = λ bs. AtSlots.n-as-by T20 8 (Rows.arrF (Referent.rtF (Referent.fInt Syntax.w64)) 2 0) λ x. x
 
   abbrev s20 : (bs : List.List Nat.ℕ) → Typed.Gives T21 T23
   s20 = λ bs. Borrow.k-arr-borrow (Referent.rtF Referent.fBool) T21 (Row.hd 0 (Row.tl (Row.tl (Row.tl (Row.tl (Row.tl (Row.tl (Row.tl bs)))))))) 7 14 256 5 (Syntax.tyRef Syntax.erased Syntax.mut (Syntax.tyArray Syntax.tyBool 256)) λ x. x
@@ -567,13 +567,13 @@ module _ (claims· : Claims) where
   s21 = λ bs. Relend.k-sl-aggregate (Referent.rtF Referent.fBool) (Relend.asMut (Referent.rtF Referent.fBool)) T23 14 15 5 (Syntax.tyRef Syntax.erased Syntax.mut (Syntax.tyArray Syntax.tyBool 256)) (Syntax.tyRef Syntax.erased Syntax.mut Syntax.tyBool) (λ x. x) (Scalar.oInt Syntax.w64 256)
 
   abbrev s23 : (bs : List.List Nat.ℕ) → Typed.Gives T24 T26
-  s23 = λ bs. Borrow.k-arr-borrow (Referent.rtF Referent.fBool) T24 (Row.hd 0 (Row.tl (Row.tl (Row.tl (Row.tl (Row.tl (Row.tl (Row.tl (Row.tl bs))))))))) 8 16 256 6 (Syntax.tyRef Syntax.erased Syntax.mut (Syntax.tyArray Syntax.tyBool 256)) λ x. x
+  s23 = λ bs. Borrow.k-arr-borrow (Referent.rtF (Referent.fInt Syntax.w64)) T24 (Row.hd 0 (Row.tl (Row.tl (Row.tl (Row.tl (Row.tl (Row.tl (Row.tl (Row.tl bs))))))))) 8 16 2 6 (Syntax.tyRef Syntax.erased Syntax.mut (Syntax.tyArray (Syntax.tyInt Syntax.w64) 2)) λ x. x
 
   abbrev s24 : (bs : List.List Nat.ℕ) → Typed.Asks T26 T27
-  s24 = λ bs. Relend.k-sl-aggregate (Referent.rtF Referent.fBool) (Relend.asMut (Referent.rtF Referent.fBool)) T26 16 17 6 (Syntax.tyRef Syntax.erased Syntax.mut (Syntax.tyArray Syntax.tyBool 256)) (Syntax.tyRef Syntax.erased Syntax.mut Syntax.tyBool) (λ x. x) (Scalar.oInt Syntax.w64 256)
+  s24 = λ bs. Relend.k-sl-aggregate (Referent.rtF (Referent.fInt Syntax.w64)) (Relend.asMut (Referent.rtF (Referent.fInt Syntax.w64))) T26 16 17 6 (Syntax.tyRef Syntax.erased Syntax.mut (Syntax.tyArray (Syntax.tyInt Syntax.w64) 2)) (Syntax.tyRef Syntax.erased Syntax.mut (Syntax.tyInt Syntax.w64)) (λ x. x) (Scalar.oInt Syntax.w64 2)
 
   abbrev s25 : (bs : List.List Nat.ℕ) → Typed.Both T27 T28
-  s25 = λ bs. Call.callB ps·1 r·1 (claims· .2) (claims· .3) T27 (record { pos = 1; ty = Syntax.tyRef (Syntax.named 0) Syntax.imm (Syntax.tyInt Syntax.w8); ref = λ x. x }, (record { pos = 5; ty = Syntax.tyRef (Syntax.named 4) Syntax.imm (Memory″.pointee ((Struct″.row StepT.the-type) .written)); ref = λ x. x }, (record { pos = 3; ty = Syntax.tyRef (Syntax.named 2) Syntax.imm (Syntax.tyInt Syntax.w64); ref = λ x. x }, (record { pos = 4; ty = Syntax.tyRef (Syntax.named 3) Syntax.imm (Syntax.tyInt Syntax.w64); ref = λ x. x }, (Num.vAt 6 λ x. x, (record { pos = 15; ty = Syntax.tyRef Syntax.erased Syntax.mut Syntax.tyBool; ref = λ x. x }, (record { pos = 17; ty = Syntax.tyRef Syntax.erased Syntax.mut Syntax.tyBool; ref = λ x. x }, tt))))))) 13 (List._∷_ 0 (List._∷_ 4 (List._∷_ 2 (List._∷_ 3 (List._∷_ 5 (List._∷_ 6 List.[])))))) Syntax.tyUnit
+  s25 = λ bs. Call.callB ps·1 r·1 (claims· .2) (claims· .3) T27 (record { pos = 1; ty = Syntax.tyRef (Syntax.named 0) Syntax.imm (Syntax.tyInt Syntax.w8); ref = λ x. x }, (record { pos = 5; ty = Syntax.tyRef (Syntax.named 4) Syntax.imm (Memory″.pointee ((Struct″.row StepT.the-type) .written)); ref = λ x. x }, (record { pos = 3; ty = Syntax.tyRef (Syntax.named 2) Syntax.imm (Syntax.tyInt Syntax.w64); ref = λ x. x }, (record { pos = 4; ty = Syntax.tyRef (Syntax.named 3) Syntax.imm (Syntax.tyInt Syntax.w64); ref = λ x. x }, (Num.vAt 6 λ x. x, (record { pos = 15; ty = Syntax.tyRef Syntax.erased Syntax.mut Syntax.tyBool; ref = λ x. x }, (record { pos = 17; ty = Syntax.tyRef Syntax.erased Syntax.mut (Syntax.tyInt Syntax.w64); ref = λ x. x }, tt))))))) 13 (List._∷_ 0 (List._∷_ 4 (List._∷_ 2 (List._∷_ 3 (List._∷_ 5 (List._∷_ 6 List.[])))))) Syntax.tyUnit
 
   abbrev s26 : (bs : List.List Nat.ℕ) → Typed.Mo T28 → Typed.Mo T29
   s26 = λ bs. Scalar.n-room T28 13 Syntax.tyUnit
@@ -582,10 +582,10 @@ module _ (claims· : Claims) where
   s28 = λ bs. Borrow.k-back-arr (Referent.rtF Referent.fBool) T29 15 7 5 256 (Syntax.tyRef Syntax.erased Syntax.mut Syntax.tyBool) (λ x. x) λ x. x
 
   abbrev s31 : (bs : List.List Nat.ℕ) → Typed.Both T31 T34
-  s31 = λ bs. Borrow.k-back-arr (Referent.rtF Referent.fBool) T31 17 8 6 256 (Syntax.tyRef Syntax.erased Syntax.mut Syntax.tyBool) (λ x. x) λ x. x
+  s31 = λ bs. Borrow.k-back-arr (Referent.rtF (Referent.fInt Syntax.w64)) T31 17 8 6 2 (Syntax.tyRef Syntax.erased Syntax.mut (Syntax.tyInt Syntax.w64)) (λ x. x) λ x. x
 
   abbrev s33 : (bs : List.List Nat.ℕ) → Typed.Mo T34 → Typed.Mo T36
-  s33 = λ bs. Scalar.n-room T34 8 (Syntax.tyArray Syntax.tyBool 256)
+  s33 = λ bs. Scalar.n-room T34 8 (Syntax.tyArray (Syntax.tyInt Syntax.w64) 2)
 
   abbrev s35 : (bs : List.List Nat.ℕ) → Typed.Gives T36 T38
   s35 = λ bs. Share.k-arr-share (Referent.rtF Referent.fBool) T36 7 19 256 7 (Syntax.tyRef Syntax.erased Syntax.imm (Syntax.tyArray Syntax.tyBool 256)) λ x. x
@@ -1119,13 +1119,13 @@ module _ (claims· : Claims) where
           d32 = Typed.g-pre 𝓤 H A W 𝓣 E G36 G37 b33 Δ0 (λ Ψ. Ψ) (at31 bs) (Lifetime.g-begin 𝓤 H A W E G36 7 (tt, (tt, (tt, (tt, (tt, (tt, (tt, (tt, (tt, (tt, (tt, (tt, (tt, (tt, (tt, (tt, (tt, (tt, (tt, (tt, (tt, (tt, (tt, tt)))))))))))))))))))))))) d31
 
           d33 : Typed.Typed 𝓤 H A 𝓣 E G35 b33 Δ0 (at33 bs)
-          d33 = Typed.g-pre 𝓤 H A W 𝓣 E G35 G36 b33 Δ0 (Typed.pass T34 T36 (s33 bs)) (at32 bs) (Scalar.g-room 𝓤 H A W E G35 8 (Syntax.tyArray Syntax.tyBool 256) (Init.room-arr 𝓤 H A W (Referent.rtF Referent.fBool) 256 0 256 Path'.refl)) d32
+          d33 = Typed.g-pre 𝓤 H A W 𝓣 E G35 G36 b33 Δ0 (Typed.pass T34 T36 (s33 bs)) (at32 bs) (Scalar.g-room 𝓤 H A W E G35 8 (Syntax.tyArray (Syntax.tyInt Syntax.w64) 2) (Init.room-arr 𝓤 H A W (Referent.rtF (Referent.fInt Syntax.w64)) 2 0 2 Path'.refl)) d32
 
           d34 : Typed.Typed 𝓤 H A 𝓣 E G34 b33 Δ0 (at34 bs)
           d34 = Typed.g-pre 𝓤 H A W 𝓣 E G34 G35 b33 Δ0 (λ Ψ. Ψ) (at33 bs) (Lifetime.g-forget 𝓤 H A W E G34 6 Row.dead Path'.refl) d33
 
           d35 : Typed.Typed 𝓤 H A 𝓣 E G33 b33 Δ0 (at35 bs)
-          d35 = Typed.g-pre 𝓤 H A W 𝓣 E G33 G34 b33 Δ0 (Typed.both (s31 bs)) (at34 bs) (Borrow.g-back-arr 𝓤 H A W E (Referent.rtF Referent.fBool) G33 17 8 6 256 (Syntax.tyRef Syntax.erased Syntax.mut Syntax.tyBool) (λ x. x) (λ x. x) (Reads.as-is 𝓤 H A (Mut.msleft (Referent.rtF Referent.fBool) (Syntax.tyRef Syntax.erased Syntax.mut Syntax.tyBool))) (Reads.as-is 𝓤 H A (Rows.arr-owed (Referent.rtF Referent.fBool) 256 6)) Path'.refl) d34
+          d35 = Typed.g-pre 𝓤 H A W 𝓣 E G33 G34 b33 Δ0 (Typed.both (s31 bs)) (at34 bs) (Borrow.g-back-arr 𝓤 H A W E (Referent.rtF (Referent.fInt Syntax.w64)) G33 17 8 6 2 (Syntax.tyRef Syntax.erased Syntax.mut (Syntax.tyInt Syntax.w64)) (λ x. x) (λ x. x) (Reads.as-is 𝓤 H A (Mut.msleft (Referent.rtF (Referent.fInt Syntax.w64)) (Syntax.tyRef Syntax.erased Syntax.mut (Syntax.tyInt Syntax.w64)))) (Reads.as-is 𝓤 H A (Rows.arr-owed (Referent.rtF (Referent.fInt Syntax.w64)) 2 6)) Path'.refl) d34
 
           d36 : Typed.Typed 𝓤 H A 𝓣 E G32 b33 Δ0 (at36 bs)
           d36 = Typed.g-pre 𝓤 H A W 𝓣 E G32 G33 b33 Δ0 (λ Ψ. Ψ) (at35 bs) (Lifetime.g-end 𝓤 H A W E G32 6 Path'.refl) d35
@@ -1143,13 +1143,13 @@ module _ (claims· : Claims) where
           d40 = Typed.g-pre 𝓤 H A W 𝓣 E G28 G29 b33 Δ0 (Typed.pass T28 T29 (s26 bs)) (at39 bs) (Scalar.g-room 𝓤 H A W E G28 13 Syntax.tyUnit (Scalar.room-sc 𝓤 H A W Row.sUnit)) d39
 
           d41 : Typed.Typed 𝓤 H A 𝓣 E G27 b34 Δ0 (at41 bs)
-          d41 = Typed.s-seq 𝓤 H A W 𝓣 E G27 G28 b16 b33 Δ0 (Typed.both (s25 bs)) (at40 bs) (Plain.t-call-plain 𝓤 H A W 𝓣 6 ps·1 r·1 (claims· .2) (claims· .3) "gathered::gather" (known .1) E (λ pos β. β) G27 (record { pos = 1; ty = Syntax.tyRef (Syntax.named 0) Syntax.imm (Syntax.tyInt Syntax.w8); ref = λ x. x }, (record { pos = 5; ty = Syntax.tyRef (Syntax.named 4) Syntax.imm (Memory″.pointee ((Struct″.row StepT.the-type) .written)); ref = λ x. x }, (record { pos = 3; ty = Syntax.tyRef (Syntax.named 2) Syntax.imm (Syntax.tyInt Syntax.w64); ref = λ x. x }, (record { pos = 4; ty = Syntax.tyRef (Syntax.named 3) Syntax.imm (Syntax.tyInt Syntax.w64); ref = λ x. x }, (Num.vAt 6 λ x. x, (record { pos = 15; ty = Syntax.tyRef Syntax.erased Syntax.mut Syntax.tyBool; ref = λ x. x }, (record { pos = 17; ty = Syntax.tyRef Syntax.erased Syntax.mut Syntax.tyBool; ref = λ x. x }, tt))))))) 13 (List._∷_ 0 (List._∷_ 4 (List._∷_ 2 (List._∷_ 3 (List._∷_ 5 (List._∷_ 6 List.[])))))) (Call.sub-id 𝓤 H A W (G27 .slots)) (ShrSlice.spares-sslice 𝓤 H A W (Referent.rtF (Referent.fInt Syntax.w8)) (Syntax.tyRef (Syntax.named 0) Syntax.imm (Syntax.tyInt Syntax.w8)) 0, Shared.reads-sslice 𝓤 H A W (Referent.rtF (Referent.fInt Syntax.w8)) (Syntax.tyRef (Syntax.named 0) Syntax.imm (Syntax.tyInt Syntax.w8)) 0, Path'.refl, (ShrSlice.spares-sslice 𝓤 H A W (Struct″.row StepT.the-type) (Syntax.tyRef (Syntax.named 4) Syntax.imm (Memory″.pointee ((Struct″.row StepT.the-type) .written))) 4, Shared.reads-sslice 𝓤 H A W (Struct″.row StepT.the-type) (Syntax.tyRef (Syntax.named 4) Syntax.imm (Memory″.pointee ((Struct″.row StepT.the-type) .written))) 4, Path'.refl, (ShrSlice.spares-sslice 𝓤 H A W (Referent.rtF (Referent.fInt Syntax.w64)) (Syntax.tyRef (Syntax.named 2) Syntax.imm (Syntax.tyInt Syntax.w64)) 2, Shared.reads-sslice 𝓤 H A W (Referent.rtF (Referent.fInt Syntax.w64)) (Syntax.tyRef (Syntax.named 2) Syntax.imm (Syntax.tyInt Syntax.w64)) 2, Path'.refl, (ShrSlice.spares-sslice 𝓤 H A W (Referent.rtF (Referent.fInt Syntax.w64)) (Syntax.tyRef (Syntax.named 3) Syntax.imm (Syntax.tyInt Syntax.w64)) 3, Shared.reads-sslice 𝓤 H A W (Referent.rtF (Referent.fInt Syntax.w64)) (Syntax.tyRef (Syntax.named 3) Syntax.imm (Syntax.tyInt Syntax.w64)) 3, Path'.refl, ((Scalar.reads-sc 𝓤 H A W (Row.sInt Syntax.w64), Path'.refl), (Reads.as-is 𝓤 H A (Mut.mslice (Referent.rtF Referent.fBool) (Syntax.tyRef Syntax.erased Syntax.mut Syntax.tyBool) 5), Mut.reads-mslice 𝓤 H A W (Referent.rtF Referent.fBool) (Syntax.tyRef Syntax.erased Syntax.mut Syntax.tyBool) 5, Path'.refl, (Reads.as-is 𝓤 H A (Mut.mslice (Referent.rtF Referent.fBool) (Syntax.tyRef Syntax.erased Syntax.mut Syntax.tyBool) 6), Mut.reads-mslice 𝓤 H A W (Referent.rtF Referent.fBool) (Syntax.tyRef Syntax.erased Syntax.mut Syntax.tyBool) 6, Path'.refl, tt))))))) (Reads.room-gone 𝓤 H A Syntax.tyUnit) (tt, (tt, (tt, (tt, (tt, (tt, tt)))))) Path'.refl) d40
+          d41 = Typed.s-seq 𝓤 H A W 𝓣 E G27 G28 b16 b33 Δ0 (Typed.both (s25 bs)) (at40 bs) (Plain.t-call-plain 𝓤 H A W 𝓣 6 ps·1 r·1 (claims· .2) (claims· .3) "gathered::gather" (known .1) E (λ pos β. β) G27 (record { pos = 1; ty = Syntax.tyRef (Syntax.named 0) Syntax.imm (Syntax.tyInt Syntax.w8); ref = λ x. x }, (record { pos = 5; ty = Syntax.tyRef (Syntax.named 4) Syntax.imm (Memory″.pointee ((Struct″.row StepT.the-type) .written)); ref = λ x. x }, (record { pos = 3; ty = Syntax.tyRef (Syntax.named 2) Syntax.imm (Syntax.tyInt Syntax.w64); ref = λ x. x }, (record { pos = 4; ty = Syntax.tyRef (Syntax.named 3) Syntax.imm (Syntax.tyInt Syntax.w64); ref = λ x. x }, (Num.vAt 6 λ x. x, (record { pos = 15; ty = Syntax.tyRef Syntax.erased Syntax.mut Syntax.tyBool; ref = λ x. x }, (record { pos = 17; ty = Syntax.tyRef Syntax.erased Syntax.mut (Syntax.tyInt Syntax.w64); ref = λ x. x }, tt))))))) 13 (List._∷_ 0 (List._∷_ 4 (List._∷_ 2 (List._∷_ 3 (List._∷_ 5 (List._∷_ 6 List.[])))))) (Call.sub-id 𝓤 H A W (G27 .slots)) (ShrSlice.spares-sslice 𝓤 H A W (Referent.rtF (Referent.fInt Syntax.w8)) (Syntax.tyRef (Syntax.named 0) Syntax.imm (Syntax.tyInt Syntax.w8)) 0, Shared.reads-sslice 𝓤 H A W (Referent.rtF (Referent.fInt Syntax.w8)) (Syntax.tyRef (Syntax.named 0) Syntax.imm (Syntax.tyInt Syntax.w8)) 0, Path'.refl, (ShrSlice.spares-sslice 𝓤 H A W (Struct″.row StepT.the-type) (Syntax.tyRef (Syntax.named 4) Syntax.imm (Memory″.pointee ((Struct″.row StepT.the-type) .written))) 4, Shared.reads-sslice 𝓤 H A W (Struct″.row StepT.the-type) (Syntax.tyRef (Syntax.named 4) Syntax.imm (Memory″.pointee ((Struct″.row StepT.the-type) .written))) 4, Path'.refl, (ShrSlice.spares-sslice 𝓤 H A W (Referent.rtF (Referent.fInt Syntax.w64)) (Syntax.tyRef (Syntax.named 2) Syntax.imm (Syntax.tyInt Syntax.w64)) 2, Shared.reads-sslice 𝓤 H A W (Referent.rtF (Referent.fInt Syntax.w64)) (Syntax.tyRef (Syntax.named 2) Syntax.imm (Syntax.tyInt Syntax.w64)) 2, Path'.refl, (ShrSlice.spares-sslice 𝓤 H A W (Referent.rtF (Referent.fInt Syntax.w64)) (Syntax.tyRef (Syntax.named 3) Syntax.imm (Syntax.tyInt Syntax.w64)) 3, Shared.reads-sslice 𝓤 H A W (Referent.rtF (Referent.fInt Syntax.w64)) (Syntax.tyRef (Syntax.named 3) Syntax.imm (Syntax.tyInt Syntax.w64)) 3, Path'.refl, ((Scalar.reads-sc 𝓤 H A W (Row.sInt Syntax.w64), Path'.refl), (Reads.as-is 𝓤 H A (Mut.mslice (Referent.rtF Referent.fBool) (Syntax.tyRef Syntax.erased Syntax.mut Syntax.tyBool) 5), Mut.reads-mslice 𝓤 H A W (Referent.rtF Referent.fBool) (Syntax.tyRef Syntax.erased Syntax.mut Syntax.tyBool) 5, Path'.refl, (Reads.as-is 𝓤 H A (Mut.mslice (Referent.rtF (Referent.fInt Syntax.w64)) (Syntax.tyRef Syntax.erased Syntax.mut (Syntax.tyInt Syntax.w64)) 6), Mut.reads-mslice 𝓤 H A W (Referent.rtF (Referent.fInt Syntax.w64)) (Syntax.tyRef Syntax.erased Syntax.mut (Syntax.tyInt Syntax.w64)) 6, Path'.refl, tt))))))) (Reads.room-gone 𝓤 H A Syntax.tyUnit) (tt, (tt, (tt, (tt, (tt, (tt, tt)))))) Path'.refl) d40
 
           d42 : Typed.Typed 𝓤 H A 𝓣 E G26 b35 Δ0 (at42 bs)
-          d42 = Typed.s-seq 𝓤 H A W 𝓣 E G26 G27 b15 b34 Δ0 (Typed.ask (s24 bs)) (at41 bs) (Relend.t-sl-aggregate 𝓤 H A W E (Referent.rtF Referent.fBool) 𝓣 (Relend.asMut (Referent.rtF Referent.fBool)) G26 16 17 6 (Syntax.tyRef Syntax.erased Syntax.mut (Syntax.tyArray Syntax.tyBool 256)) (Syntax.tyRef Syntax.erased Syntax.mut Syntax.tyBool) (λ x. x) (Scalar.oInt Syntax.w64 256) (Reads.as-is 𝓤 H A (Relend.msptr (Referent.rtF Referent.fBool) (Syntax.tyRef Syntax.erased Syntax.mut (Syntax.tyArray Syntax.tyBool 256)) 6)) (Reads.room-gone 𝓤 H A (Syntax.tyStruct (List._∷_ 38 (List._∷_ 91 (List._∷_ 93 List.[]))) (Syntax.tcons (Syntax.tyRef Syntax.erased Syntax.mut Syntax.tyBool) (Syntax.tcons (Syntax.tyInt Syntax.w64) Syntax.tnil)))) tt Path'.refl Path'.refl λ b o k. tt) d41
+          d42 = Typed.s-seq 𝓤 H A W 𝓣 E G26 G27 b15 b34 Δ0 (Typed.ask (s24 bs)) (at41 bs) (Relend.t-sl-aggregate 𝓤 H A W E (Referent.rtF (Referent.fInt Syntax.w64)) 𝓣 (Relend.asMut (Referent.rtF (Referent.fInt Syntax.w64))) G26 16 17 6 (Syntax.tyRef Syntax.erased Syntax.mut (Syntax.tyArray (Syntax.tyInt Syntax.w64) 2)) (Syntax.tyRef Syntax.erased Syntax.mut (Syntax.tyInt Syntax.w64)) (λ x. x) (Scalar.oInt Syntax.w64 2) (Reads.as-is 𝓤 H A (Relend.msptr (Referent.rtF (Referent.fInt Syntax.w64)) (Syntax.tyRef Syntax.erased Syntax.mut (Syntax.tyArray (Syntax.tyInt Syntax.w64) 2)) 6)) (Reads.room-gone 𝓤 H A (Syntax.tyStruct (List._∷_ 38 (List._∷_ 91 (List._∷_ 93 List.[]))) (Syntax.tcons (Syntax.tyRef Syntax.erased Syntax.mut (Syntax.tyInt Syntax.w64)) (Syntax.tcons (Syntax.tyInt Syntax.w64) Syntax.tnil)))) tt Path'.refl Path'.refl λ b o k. tt) d41
 
           d43 : Typed.Typed 𝓤 H A 𝓣 E G25 b36 Δ0 (at43 bs)
-          d43 = Typed.s-seq 𝓤 H A W 𝓣 E G25 G26 b14 b35 Δ0 (Typed.give (s23 bs)) (at42 bs) (Borrow.t-arr-borrow 𝓤 H A W E 𝓣 (Referent.rtF Referent.fBool) G25 8 16 256 6 (Syntax.tyRef Syntax.erased Syntax.mut (Syntax.tyArray Syntax.tyBool 256)) (λ x. x) (Reads.as-is 𝓤 H A (Rows.arrF (Referent.rtF Referent.fBool) 256 0)) (Reads.room-gone 𝓤 H A (Syntax.tyRef Syntax.erased Syntax.mut (Syntax.tyArray Syntax.tyBool 256))) Path'.refl (λ b o. tt) (Dec'.lit< tt, Dec'.lit< tt)) d42
+          d43 = Typed.s-seq 𝓤 H A W 𝓣 E G25 G26 b14 b35 Δ0 (Typed.give (s23 bs)) (at42 bs) (Borrow.t-arr-borrow 𝓤 H A W E 𝓣 (Referent.rtF (Referent.fInt Syntax.w64)) G25 8 16 2 6 (Syntax.tyRef Syntax.erased Syntax.mut (Syntax.tyArray (Syntax.tyInt Syntax.w64) 2)) (λ x. x) (Reads.as-is 𝓤 H A (Rows.arrF (Referent.rtF (Referent.fInt Syntax.w64)) 2 0)) (Reads.room-gone 𝓤 H A (Syntax.tyRef Syntax.erased Syntax.mut (Syntax.tyArray (Syntax.tyInt Syntax.w64) 2))) Path'.refl (λ b o. tt) (Dec'.lit< tt, Dec'.lit< tt)) d42
 
           d44 : Typed.Typed 𝓤 H A 𝓣 E G24 b36 Δ0 (at44 bs)
           d44 = Typed.g-pre 𝓤 H A W 𝓣 E G24 G25 b36 Δ0 (λ Ψ. Ψ) (at43 bs) (Lifetime.g-begin 𝓤 H A W E G24 6 (tt, (tt, (tt, (tt, (tt, (tt, (tt, (tt, (tt, (tt, (tt, (tt, (tt, (tt, (tt, (tt, (tt, (tt, (tt, (tt, (tt, (tt, (tt, tt)))))))))))))))))))))))) d43
@@ -1164,10 +1164,10 @@ module _ (claims· : Claims) where
           d47 = Typed.g-pre 𝓤 H A W 𝓣 E G21 G22 b38 Δ0 (λ Ψ. Ψ) (at46 bs) (Lifetime.g-begin 𝓤 H A W E G21 5 (tt, (tt, (tt, (tt, (tt, (tt, (tt, (tt, (tt, (tt, (tt, (tt, (tt, (tt, (tt, (tt, (tt, (tt, (tt, (tt, (tt, (tt, (tt, tt)))))))))))))))))))))))) d46
 
           d48 : Typed.Typed 𝓤 H A 𝓣 E G20 b38 Δ0 (at48 bs)
-          d48 = Typed.g-pre 𝓤 H A W 𝓣 E G20 G21 b38 Δ0 (Typed.pass T20 T21 (s18 bs)) (at47 bs) (AtSlots.g-as-by 𝓤 H A W E (λ ρ. Unit) G20 8 (Rows.arrF (Referent.rtF Referent.fBool) 256 0) (λ x. x) (Own.told-none 𝓤 H A (G20 .slots)) λ ρ told. Repeat.whole-arr 𝓤 H A W (Referent.rtF Referent.fBool) 256 tt ρ) d47
+          d48 = Typed.g-pre 𝓤 H A W 𝓣 E G20 G21 b38 Δ0 (Typed.pass T20 T21 (s18 bs)) (at47 bs) (AtSlots.g-as-by 𝓤 H A W E (λ ρ. Unit) G20 8 (Rows.arrF (Referent.rtF (Referent.fInt Syntax.w64)) 2 0) (λ x. x) (Own.told-none 𝓤 H A (G20 .slots)) λ ρ told. Repeat.whole-arr 𝓤 H A W (Referent.rtF (Referent.fInt Syntax.w64)) 2 tt ρ) d47
 
           d49 : Typed.Typed 𝓤 H A 𝓣 E G19 b39 Δ0 (at49 bs)
-          d49 = Typed.s-seq 𝓤 H A W 𝓣 E G19 G20 b11 b38 Δ0 (Typed.pass T19 T20 (s17 bs)) (at48 bs) (Repeat.t-repeat 𝓤 H A W E 𝓣 (Referent.rtF Referent.fBool) (Plain'.bool-lawful 𝓤 H A W) (Copies.cRf Referent.fBool .copy 𝓤 H A W) (Plain'.bool-makes 𝓤 H A W) 256 G19 8 (Scalar.oBool Bool'.false) (λ m. Bool'.false) (Reads.room-gone 𝓤 H A (Syntax.tyArray Syntax.tyBool 256)) tt Path'.refl λ m wa. Path'.refl) d48
+          d49 = Typed.s-seq 𝓤 H A W 𝓣 E G19 G20 b11 b38 Δ0 (Typed.pass T19 T20 (s17 bs)) (at48 bs) (Repeat.t-repeat 𝓤 H A W E 𝓣 (Referent.rtF (Referent.fInt Syntax.w64)) (Plain'.uint-lawful 𝓤 H A W Syntax.w64) (Copies.cRf (Referent.fInt Syntax.w64) .copy 𝓤 H A W) (Plain'.uint-makes 𝓤 H A W Syntax.w64) 2 G19 8 (Scalar.oInt Syntax.w64 0) (λ m. 0) (Reads.room-gone 𝓤 H A (Syntax.tyArray (Syntax.tyInt Syntax.w64) 2)) tt Path'.refl λ m wa. (Path'.refl, Dec'.lit< tt)) d48
 
           d50 : Typed.Typed 𝓤 H A 𝓣 E G18 b39 Δ0 (at50 bs)
           d50 = Typed.g-pre 𝓤 H A W 𝓣 E G18 G19 b39 Δ0 (Typed.pass T18 T19 (s16 bs)) (at49 bs) (AtSlots.g-as-by 𝓤 H A W E (λ ρ. Unit) G18 7 (Rows.arrF (Referent.rtF Referent.fBool) 256 0) (λ x. x) (Own.told-none 𝓤 H A (G18 .slots)) λ ρ told. Repeat.whole-arr 𝓤 H A W (Referent.rtF Referent.fBool) 256 tt ρ) d49
@@ -1206,13 +1206,13 @@ module _ (claims· : Claims) where
         pub record Args : Type 0 where
           pub sheet : Kinds.Den {n = 5} κs (ShrSlice.pShrS (Referent.rtF (Referent.fInt Syntax.w8)) 0 tt)
           pub listed : Kinds.Den {n = 5} κs (ShrSlice.pShrS (Referent.rtF Referent.fBool) 1 tt)
-          pub legs : Kinds.Den {n = 5} κs (ShrSlice.pShrS (Referent.rtF (Referent.fInt Syntax.w64)) 2 tt)
-          pub links : Kinds.Den {n = 5} κs (ShrSlice.pShrS (Referent.rtF (Referent.fInt Syntax.w64)) 3 tt)
+          pub links : Kinds.Den {n = 5} κs (ShrSlice.pShrS (Referent.rtF (Referent.fInt Syntax.w64)) 2 tt)
+          pub paths : Kinds.Den {n = 5} κs (ShrSlice.pShrS (Referent.rtF (Referent.fInt Syntax.w64)) 3 tt)
           pub steps : Kinds.Den {n = 5} κs (ShrSlice.pShrS (Struct″.row StepT.the-type) 4 tt)
           pub n : Kinds.Den {n = 5} κs (Num.pNum Syntax.w64)
 
         abbrev pub dens : (a : Args) → Kinds.Dens κs ps
-        dens = λ a. (a .sheet, (a .listed, (a .legs, (a .links, (a .steps, (a .n, tt))))))
+        dens = λ a. (a .sheet, (a .listed, (a .links, (a .paths, (a .steps, (a .n, tt))))))
 
         module _ (args· : Args) where
           pub record Ranges : Type 0 where
@@ -1392,7 +1392,7 @@ module _ (claims· : Claims) where
         pub walked : After-walked·own before
 
       abbrev pub Need-slice-aggregate-gather-2 : Type 0
-      Need-slice-aggregate-gather-2 = (c : After-walked) → Relend.CountIs T26 16 17 (λ x. x) (λ u. 256) (m22 (c .before) (c .walked .given))
+      Need-slice-aggregate-gather-2 = (c : After-walked) → Relend.CountIs T26 16 17 (λ x. x) (λ u. 2) (m22 (c .before) (c .walked .given))
 
       abbrev pub m23 : (before : After-entries) → (given : s23 (before .before .before .before .before .before .before .before .blocks) .gives (m21 (before .before) (before .entries .given))) → Typed.Mo T27
       m23 = λ before given. s24 (before .before .before .before .before .before .before .before .blocks) .next (m22 before given)
@@ -1405,14 +1405,14 @@ module _ (claims· : Claims) where
 
       module _ (before· : After-walked) where
         abbrev pub After-gather·own : Type 0
-        After-gather·own = Called.Called ps·1 r·1 (claims· .3) T27 (record { pos = 1; ty = Syntax.tyRef (Syntax.named 0) Syntax.imm (Syntax.tyInt Syntax.w8); ref = λ x. x }, (record { pos = 5; ty = Syntax.tyRef (Syntax.named 4) Syntax.imm (Memory″.pointee ((Struct″.row StepT.the-type) .written)); ref = λ x. x }, (record { pos = 3; ty = Syntax.tyRef (Syntax.named 2) Syntax.imm (Syntax.tyInt Syntax.w64); ref = λ x. x }, (record { pos = 4; ty = Syntax.tyRef (Syntax.named 3) Syntax.imm (Syntax.tyInt Syntax.w64); ref = λ x. x }, (Num.vAt 6 λ x. x, (record { pos = 15; ty = Syntax.tyRef Syntax.erased Syntax.mut Syntax.tyBool; ref = λ x. x }, (record { pos = 17; ty = Syntax.tyRef Syntax.erased Syntax.mut Syntax.tyBool; ref = λ x. x }, tt))))))) (m23 (before· .before) (before· .walked .given))
+        After-gather·own = Called.Called ps·1 r·1 (claims· .3) T27 (record { pos = 1; ty = Syntax.tyRef (Syntax.named 0) Syntax.imm (Syntax.tyInt Syntax.w8); ref = λ x. x }, (record { pos = 5; ty = Syntax.tyRef (Syntax.named 4) Syntax.imm (Memory″.pointee ((Struct″.row StepT.the-type) .written)); ref = λ x. x }, (record { pos = 3; ty = Syntax.tyRef (Syntax.named 2) Syntax.imm (Syntax.tyInt Syntax.w64); ref = λ x. x }, (record { pos = 4; ty = Syntax.tyRef (Syntax.named 3) Syntax.imm (Syntax.tyInt Syntax.w64); ref = λ x. x }, (Num.vAt 6 λ x. x, (record { pos = 15; ty = Syntax.tyRef Syntax.erased Syntax.mut Syntax.tyBool; ref = λ x. x }, (record { pos = 17; ty = Syntax.tyRef Syntax.erased Syntax.mut (Syntax.tyInt Syntax.w64); ref = λ x. x }, tt))))))) (m23 (before· .before) (before· .walked .given))
 
       pub record After-gather : Type 0 where
         pub before : After-walked
         pub gather : After-gather·own before
 
       abbrev pub After-gather·gave : (c : After-gather) → s25 (c .before .before .before .before .before .before .before .before .before .blocks) .gives (m23 (c .before .before) (c .before .walked .given))
-      After-gather·gave = λ c. Called.given ps·1 r·1 (claims· .3) T27 (record { pos = 1; ty = Syntax.tyRef (Syntax.named 0) Syntax.imm (Syntax.tyInt Syntax.w8); ref = λ x. x }, (record { pos = 5; ty = Syntax.tyRef (Syntax.named 4) Syntax.imm (Memory″.pointee ((Struct″.row StepT.the-type) .written)); ref = λ x. x }, (record { pos = 3; ty = Syntax.tyRef (Syntax.named 2) Syntax.imm (Syntax.tyInt Syntax.w64); ref = λ x. x }, (record { pos = 4; ty = Syntax.tyRef (Syntax.named 3) Syntax.imm (Syntax.tyInt Syntax.w64); ref = λ x. x }, (Num.vAt 6 λ x. x, (record { pos = 15; ty = Syntax.tyRef Syntax.erased Syntax.mut Syntax.tyBool; ref = λ x. x }, (record { pos = 17; ty = Syntax.tyRef Syntax.erased Syntax.mut Syntax.tyBool; ref = λ x. x }, tt))))))) (m23 (c .before .before) (c .before .walked .given)) (c .gather)
+      After-gather·gave = λ c. Called.given ps·1 r·1 (claims· .3) T27 (record { pos = 1; ty = Syntax.tyRef (Syntax.named 0) Syntax.imm (Syntax.tyInt Syntax.w8); ref = λ x. x }, (record { pos = 5; ty = Syntax.tyRef (Syntax.named 4) Syntax.imm (Memory″.pointee ((Struct″.row StepT.the-type) .written)); ref = λ x. x }, (record { pos = 3; ty = Syntax.tyRef (Syntax.named 2) Syntax.imm (Syntax.tyInt Syntax.w64); ref = λ x. x }, (record { pos = 4; ty = Syntax.tyRef (Syntax.named 3) Syntax.imm (Syntax.tyInt Syntax.w64); ref = λ x. x }, (Num.vAt 6 λ x. x, (record { pos = 15; ty = Syntax.tyRef Syntax.erased Syntax.mut Syntax.tyBool; ref = λ x. x }, (record { pos = 17; ty = Syntax.tyRef Syntax.erased Syntax.mut (Syntax.tyInt Syntax.w64); ref = λ x. x }, tt))))))) (m23 (c .before .before) (c .before .walked .given)) (c .gather)
 
       abbrev pub m25 : (before : After-walked) → (given : s25 (before .before .before .before .before .before .before .before .before .blocks) .gives (m23 (before .before) (before .walked .given))) → Typed.Mo T29
       m25 = λ before given. s26 (before .before .before .before .before .before .before .before .before .blocks) (m24 before given)
@@ -1586,7 +1586,7 @@ module _ (claims· : Claims) where
         lay5 = λ c. (Path'.refl, λ g. (Path'.refl, λ g'. λ g''. (Relend.count-is T38 19 20 (λ x. x) (λ u. 256) (m29 record { before = record { before = record { before = c .before; gather = c .gather }; entries2 = record { given = g } }; walked2 = record { given = g' } } g'') (slice-aggregate-same record { before = record { before = record { before = record { before = c .before; gather = c .gather }; entries2 = record { given = g } }; walked2 = record { given = g' } }; entries3 = record { given = g'' } }), (count-entries-requires record { before = record { before = record { before = record { before = c .before; gather = c .gather }; entries2 = record { given = g } }; walked2 = record { given = g' } }; entries3 = record { given = g'' } }, λ g'3. lay6 record { before = record { before = record { before = record { before = record { before = c .before; gather = c .gather }; entries2 = record { given = g } }; walked2 = record { given = g' } }; entries3 = record { given = g'' } }; count-entries = Called.called ps·2 r·2 (claims· .5) T39 (record { pos = 1; ty = Syntax.tyRef (Syntax.named 0) Syntax.imm (Syntax.tyInt Syntax.w8); ref = λ x. x }, tt) (m30 record { before = record { before = record { before = c .before; gather = c .gather }; entries2 = record { given = g } }; walked2 = record { given = g' } } g'') g'3 }))))
 
         lay4 : (c : Else1) → at51 (c .before .before .before .before .before .before .blocks) (W0 (c .before .before .before .before .before .before .κs) (c .before .before .before .before .before .before .args) (c .before .before .before .before .before .before .blocks)) (m15 (c .before))
-        lay4 = λ c. λ g. (Relend.count-is T23 14 15 (λ x. x) (λ u. 256) (m20 record { before = c .before; if1 = c .if1 } g) (slice-aggregate-gather record { before = record { before = c .before; if1 = c .if1 }; entries = record { given = g } }), λ g'. (Relend.count-is T26 16 17 (λ x. x) (λ u. 256) (m22 record { before = record { before = c .before; if1 = c .if1 }; entries = record { given = g } } g') (slice-aggregate-gather-2 record { before = record { before = record { before = c .before; if1 = c .if1 }; entries = record { given = g } }; walked = record { given = g' } }), (gather-requires record { before = record { before = record { before = c .before; if1 = c .if1 }; entries = record { given = g } }; walked = record { given = g' } }, λ g''. lay5 record { before = record { before = record { before = record { before = c .before; if1 = c .if1 }; entries = record { given = g } }; walked = record { given = g' } }; gather = Called.called ps·1 r·1 (claims· .3) T27 (record { pos = 1; ty = Syntax.tyRef (Syntax.named 0) Syntax.imm (Syntax.tyInt Syntax.w8); ref = λ x. x }, (record { pos = 5; ty = Syntax.tyRef (Syntax.named 4) Syntax.imm (Memory″.pointee ((Struct″.row StepT.the-type) .written)); ref = λ x. x }, (record { pos = 3; ty = Syntax.tyRef (Syntax.named 2) Syntax.imm (Syntax.tyInt Syntax.w64); ref = λ x. x }, (record { pos = 4; ty = Syntax.tyRef (Syntax.named 3) Syntax.imm (Syntax.tyInt Syntax.w64); ref = λ x. x }, (Num.vAt 6 λ x. x, (record { pos = 15; ty = Syntax.tyRef Syntax.erased Syntax.mut Syntax.tyBool; ref = λ x. x }, (record { pos = 17; ty = Syntax.tyRef Syntax.erased Syntax.mut Syntax.tyBool; ref = λ x. x }, tt))))))) (m23 record { before = record { before = c .before; if1 = c .if1 }; entries = record { given = g } } g') g'' })))
+        lay4 = λ c. λ g. (Relend.count-is T23 14 15 (λ x. x) (λ u. 256) (m20 record { before = c .before; if1 = c .if1 } g) (slice-aggregate-gather record { before = record { before = c .before; if1 = c .if1 }; entries = record { given = g } }), λ g'. (Relend.count-is T26 16 17 (λ x. x) (λ u. 2) (m22 record { before = record { before = c .before; if1 = c .if1 }; entries = record { given = g } } g') (slice-aggregate-gather-2 record { before = record { before = record { before = c .before; if1 = c .if1 }; entries = record { given = g } }; walked = record { given = g' } }), (gather-requires record { before = record { before = record { before = c .before; if1 = c .if1 }; entries = record { given = g } }; walked = record { given = g' } }, λ g''. lay5 record { before = record { before = record { before = record { before = c .before; if1 = c .if1 }; entries = record { given = g } }; walked = record { given = g' } }; gather = Called.called ps·1 r·1 (claims· .3) T27 (record { pos = 1; ty = Syntax.tyRef (Syntax.named 0) Syntax.imm (Syntax.tyInt Syntax.w8); ref = λ x. x }, (record { pos = 5; ty = Syntax.tyRef (Syntax.named 4) Syntax.imm (Memory″.pointee ((Struct″.row StepT.the-type) .written)); ref = λ x. x }, (record { pos = 3; ty = Syntax.tyRef (Syntax.named 2) Syntax.imm (Syntax.tyInt Syntax.w64); ref = λ x. x }, (record { pos = 4; ty = Syntax.tyRef (Syntax.named 3) Syntax.imm (Syntax.tyInt Syntax.w64); ref = λ x. x }, (Num.vAt 6 λ x. x, (record { pos = 15; ty = Syntax.tyRef Syntax.erased Syntax.mut Syntax.tyBool; ref = λ x. x }, (record { pos = 17; ty = Syntax.tyRef Syntax.erased Syntax.mut (Syntax.tyInt Syntax.w64); ref = λ x. x }, tt))))))) (m23 record { before = record { before = c .before; if1 = c .if1 }; entries = record { given = g } } g') g'' })))
 
         lay3 : (c : Else1) → at7 (c .before .before .before .before .before .before .blocks) (W1 (c .before .before) (After-count·gave (c .before))) (m9 (c .before .before) (After-count·gave (c .before)))
         lay3 = λ c. lay4 record { before = c .before; if1 = c .if1 }
@@ -1602,7 +1602,7 @@ module _ (claims· : Claims) where
 
         module _ (κs : Lifetimes.Lfts 5) (qs : Lifetimes.Shares 5) where
           pub asked : (a : Kinds.Dens κs ps) → (good : Kinds.GoodsP κs ps a) → (pre : Pre· κs a) → (bs : List.List Nat.ℕ) → Φ bs (Any.wantQ 5 ps r xs m κs qs a (Post· κs a)) (Function.init 5 ps r xs m κs qs a)
-          asked = λ a good pre bs. laid record { κs = κs; args = record { sheet = a .0; listed = a .1 .0; legs = a .1 .1 .0; links = a .1 .1 .1 .0; steps = a .1 .1 .1 .1 .0; n = a .1 .1 .1 .1 .1 .0 }; blocks = bs; good = good; fits = record { n = record { fits = good .1 .1 .1 .1 .1 .0 .1 } }; pre = pre }
+          asked = λ a good pre bs. laid record { κs = κs; args = record { sheet = a .0; listed = a .1 .0; links = a .1 .1 .0; paths = a .1 .1 .1 .0; steps = a .1 .1 .1 .1 .0; n = a .1 .1 .1 .1 .1 .0 }; blocks = bs; good = good; fits = record { n = record { fits = good .1 .1 .1 .1 .1 .0 .1 } }; pre = pre }
 
         module _ {M : Type 1} (𝓤 : URA.URA M) (H : Wp.Heap 𝓤) (A : Atoms.Atoms 𝓤) (W : Kit.Given 𝓤 H A) (𝓣 : Wp.Tables 𝓤 H) (known0 : Plain.Known 𝓤 H A W 𝓣 1 ps·0 r·0 (claims· .0) (claims· .1) "stated::count") (known1 : Plain.Known 𝓤 H A W 𝓣 6 ps·1 r·1 (claims· .2) (claims· .3) "gathered::gather") (known2 : Plain.Known 𝓤 H A W 𝓣 1 ps·2 r·2 (claims· .4) (claims· .5) "reading::count_entries") (known3 : Plain.Known 𝓤 H A W 𝓣 2 ps·3 r·3 (claims· .6) (claims· .7) "surveyor::same") where
           pub spec : Statement.Triple 𝓤 (Wp.WpFn 𝓤 H (𝓣 .C) (𝓣 .Λ) (Function.fnOf 5 ps r xs m hs body)) (Function.plainOf 𝓤 H A 5 ps r Pre· Post·)

@@ -78,11 +78,11 @@ At-match-keys2 = λ Inv μ. Lts.At-match-keys2 (Reads.Asked, Reads.Learnt, Reads
 abbrev pub After-enum-told2 : (Inv : InvT-loop) → (μ : MeasureT-loop) → Type 0
 After-enum-told2 = λ Inv μ. Lts.After-enum-told2 (Reads.Asked, Reads.Learnt, Reads'.Asked, Reads'.Learnt, Reads'5.Asked, Reads'5.Learnt, Reads''.Asked, Reads''.Learnt, Reads'4.Asked, Reads'4.Learnt) Reads'3.Pre Reads'3.Post Inv μ
 
-abbrev pub After-close-arg : (Inv : InvT-loop) → (μ : MeasureT-loop) → Type 0
-After-close-arg = λ Inv μ. Lts.After-close-arg (Reads.Asked, Reads.Learnt, Reads'.Asked, Reads'.Learnt, Reads'5.Asked, Reads'5.Learnt, Reads''.Asked, Reads''.Learnt, Reads'4.Asked, Reads'4.Learnt) Reads'3.Pre Reads'3.Post Inv μ
-
 abbrev pub After-links2 : (Inv : InvT-loop) → (μ : MeasureT-loop) → Type 0
 After-links2 = λ Inv μ. Lts.After-links2 (Reads.Asked, Reads.Learnt, Reads'.Asked, Reads'.Learnt, Reads'5.Asked, Reads'5.Learnt, Reads''.Asked, Reads''.Learnt, Reads'4.Asked, Reads'4.Learnt) Reads'3.Pre Reads'3.Post Inv μ
+
+abbrev pub After-paths : (Inv : InvT-loop) → (μ : MeasureT-loop) → Type 0
+After-paths = λ Inv μ. Lts.After-paths (Reads.Asked, Reads.Learnt, Reads'.Asked, Reads'.Learnt, Reads'5.Asked, Reads'5.Learnt, Reads''.Asked, Reads''.Learnt, Reads'4.Asked, Reads'4.Learnt) Reads'3.Pre Reads'3.Post Inv μ
 
 abbrev pub After-close : (Inv : InvT-loop) → (μ : MeasureT-loop) → Type 0
 After-close = λ Inv μ. Lts.After-close (Reads.Asked, Reads.Learnt, Reads'.Asked, Reads'.Learnt, Reads'5.Asked, Reads'5.Learnt, Reads''.Asked, Reads''.Learnt, Reads'4.Asked, Reads'4.Learnt) Reads'3.Pre Reads'3.Post Inv μ
@@ -99,6 +99,9 @@ After-note-arg = λ Inv μ. Lts.After-note-arg (Reads.Asked, Reads.Learnt, Reads
 abbrev pub After-links3 : (Inv : InvT-loop) → (μ : MeasureT-loop) → Type 0
 After-links3 = λ Inv μ. Lts.After-links3 (Reads.Asked, Reads.Learnt, Reads'.Asked, Reads'.Learnt, Reads'5.Asked, Reads'5.Learnt, Reads''.Asked, Reads''.Learnt, Reads'4.Asked, Reads'4.Learnt) Reads'3.Pre Reads'3.Post Inv μ
 
+abbrev pub After-paths2 : (Inv : InvT-loop) → (μ : MeasureT-loop) → Type 0
+After-paths2 = λ Inv μ. Lts.After-paths2 (Reads.Asked, Reads.Learnt, Reads'.Asked, Reads'.Learnt, Reads'5.Asked, Reads'5.Learnt, Reads''.Asked, Reads''.Learnt, Reads'4.Asked, Reads'4.Learnt) Reads'3.Pre Reads'3.Post Inv μ
+
 abbrev pub After-note : (Inv : InvT-loop) → (μ : MeasureT-loop) → Type 0
 After-note = λ Inv μ. Lts.After-note (Reads.Asked, Reads.Learnt, Reads'.Asked, Reads'.Learnt, Reads'5.Asked, Reads'5.Learnt, Reads''.Asked, Reads''.Learnt, Reads'4.Asked, Reads'4.Learnt) Reads'3.Pre Reads'3.Post Inv μ
 
@@ -110,6 +113,9 @@ After-slice-known2 = λ Inv μ. Lts.After-slice-known2 (Reads.Asked, Reads.Learn
 
 abbrev pub After-links4 : (Inv : InvT-loop) → (μ : MeasureT-loop) → Type 0
 After-links4 = λ Inv μ. Lts.After-links4 (Reads.Asked, Reads.Learnt, Reads'.Asked, Reads'.Learnt, Reads'5.Asked, Reads'5.Learnt, Reads''.Asked, Reads''.Learnt, Reads'4.Asked, Reads'4.Learnt) Reads'3.Pre Reads'3.Post Inv μ
+
+abbrev pub After-paths3 : (Inv : InvT-loop) → (μ : MeasureT-loop) → Type 0
+After-paths3 = λ Inv μ. Lts.After-paths3 (Reads.Asked, Reads.Learnt, Reads'.Asked, Reads'.Learnt, Reads'5.Asked, Reads'5.Learnt, Reads''.Asked, Reads''.Learnt, Reads'4.Asked, Reads'4.Learnt) Reads'3.Pre Reads'3.Post Inv μ
 
 abbrev pub Need-count-requires : (Inv : InvT-loop) → (μ : MeasureT-loop) → Type 0
 Need-count-requires = λ Inv μ. Lts.Need-count-requires (Reads.Asked, Reads.Learnt, Reads'.Asked, Reads'.Learnt, Reads'5.Asked, Reads'5.Learnt, Reads''.Asked, Reads''.Learnt, Reads'4.Asked, Reads'4.Learnt) Reads'3.Pre Reads'3.Post Inv μ
@@ -129,8 +135,8 @@ Need-ruling-on-requires = λ Inv μ. Lts.Need-ruling-on-requires (Reads.Asked, R
 abbrev pub Need-enum-told : (Inv : InvT-loop) → (μ : MeasureT-loop) → Type 0
 Need-enum-told = λ Inv μ. Lts.Need-enum-told (Reads.Asked, Reads.Learnt, Reads'.Asked, Reads'.Learnt, Reads'5.Asked, Reads'5.Learnt, Reads''.Asked, Reads''.Learnt, Reads'4.Asked, Reads'4.Learnt) Reads'3.Pre Reads'3.Post Inv μ
 
-abbrev pub Need-cast-t15 : (Inv : InvT-loop) → (μ : MeasureT-loop) → Type 0
-Need-cast-t15 = λ Inv μ. Lts.Need-cast-t15 (Reads.Asked, Reads.Learnt, Reads'.Asked, Reads'.Learnt, Reads'5.Asked, Reads'5.Learnt, Reads''.Asked, Reads''.Learnt, Reads'4.Asked, Reads'4.Learnt) Reads'3.Pre Reads'3.Post Inv μ
+abbrev pub Need-cast-t16 : (Inv : InvT-loop) → (μ : MeasureT-loop) → Type 0
+Need-cast-t16 = λ Inv μ. Lts.Need-cast-t16 (Reads.Asked, Reads.Learnt, Reads'.Asked, Reads'.Learnt, Reads'5.Asked, Reads'5.Learnt, Reads''.Asked, Reads''.Learnt, Reads'4.Asked, Reads'4.Learnt) Reads'3.Pre Reads'3.Post Inv μ
 
 abbrev pub Need-same-length : (Inv : InvT-loop) → (μ : MeasureT-loop) → Type 0
 Need-same-length = λ Inv μ. Lts.Need-same-length (Reads.Asked, Reads.Learnt, Reads'.Asked, Reads'.Learnt, Reads'5.Asked, Reads'5.Learnt, Reads''.Asked, Reads''.Learnt, Reads'4.Asked, Reads'4.Learnt) Reads'3.Pre Reads'3.Post Inv μ
@@ -143,6 +149,9 @@ Need-enum-told-2 = λ Inv μ. Lts.Need-enum-told-2 (Reads.Asked, Reads.Learnt, R
 
 abbrev pub Need-slice-aggregate-close : (Inv : InvT-loop) → (μ : MeasureT-loop) → Type 0
 Need-slice-aggregate-close = λ Inv μ. Lts.Need-slice-aggregate-close (Reads.Asked, Reads.Learnt, Reads'.Asked, Reads'.Learnt, Reads'5.Asked, Reads'5.Learnt, Reads''.Asked, Reads''.Learnt, Reads'4.Asked, Reads'4.Learnt) Reads'3.Pre Reads'3.Post Inv μ
+
+abbrev pub Need-slice-aggregate-close-2 : (Inv : InvT-loop) → (μ : MeasureT-loop) → Type 0
+Need-slice-aggregate-close-2 = λ Inv μ. Lts.Need-slice-aggregate-close-2 (Reads.Asked, Reads.Learnt, Reads'.Asked, Reads'.Learnt, Reads'5.Asked, Reads'5.Learnt, Reads''.Asked, Reads''.Learnt, Reads'4.Asked, Reads'4.Learnt) Reads'3.Pre Reads'3.Post Inv μ
 
 abbrev pub Need-close-requires : (Inv : InvT-loop) → (μ : MeasureT-loop) → Type 0
 Need-close-requires = λ Inv μ. Lts.Need-close-requires (Reads.Asked, Reads.Learnt, Reads'.Asked, Reads'.Learnt, Reads'5.Asked, Reads'5.Learnt, Reads''.Asked, Reads''.Learnt, Reads'4.Asked, Reads'4.Learnt) Reads'3.Pre Reads'3.Post Inv μ
@@ -159,6 +168,9 @@ Need-enum-told-3 = λ Inv μ. Lts.Need-enum-told-3 (Reads.Asked, Reads.Learnt, R
 abbrev pub Need-slice-aggregate-note : (Inv : InvT-loop) → (μ : MeasureT-loop) → Type 0
 Need-slice-aggregate-note = λ Inv μ. Lts.Need-slice-aggregate-note (Reads.Asked, Reads.Learnt, Reads'.Asked, Reads'.Learnt, Reads'5.Asked, Reads'5.Learnt, Reads''.Asked, Reads''.Learnt, Reads'4.Asked, Reads'4.Learnt) Reads'3.Pre Reads'3.Post Inv μ
 
+abbrev pub Need-slice-aggregate-note-2 : (Inv : InvT-loop) → (μ : MeasureT-loop) → Type 0
+Need-slice-aggregate-note-2 = λ Inv μ. Lts.Need-slice-aggregate-note-2 (Reads.Asked, Reads.Learnt, Reads'.Asked, Reads'.Learnt, Reads'5.Asked, Reads'5.Learnt, Reads''.Asked, Reads''.Learnt, Reads'4.Asked, Reads'4.Learnt) Reads'3.Pre Reads'3.Post Inv μ
+
 abbrev pub Need-cast-note : (Inv : InvT-loop) → (μ : MeasureT-loop) → Type 0
 Need-cast-note = λ Inv μ. Lts.Need-cast-note (Reads.Asked, Reads.Learnt, Reads'.Asked, Reads'.Learnt, Reads'5.Asked, Reads'5.Learnt, Reads''.Asked, Reads''.Learnt, Reads'4.Asked, Reads'4.Learnt) Reads'3.Pre Reads'3.Post Inv μ
 
@@ -174,8 +186,8 @@ Need-loop-less = λ Inv μ. Lts.Need-loop-less (Reads.Asked, Reads.Learnt, Reads
 abbrev pub Need-loop-again : (Inv : InvT-loop) → (μ : MeasureT-loop) → Type 0
 Need-loop-again = λ Inv μ. Lts.Need-loop-again (Reads.Asked, Reads.Learnt, Reads'.Asked, Reads'.Learnt, Reads'5.Asked, Reads'5.Learnt, Reads''.Asked, Reads''.Learnt, Reads'4.Asked, Reads'4.Learnt) Reads'3.Pre Reads'3.Post Inv μ
 
-abbrev pub Need-cast-t26 : (Inv : InvT-loop) → (μ : MeasureT-loop) → Type 0
-Need-cast-t26 = λ Inv μ. Lts.Need-cast-t26 (Reads.Asked, Reads.Learnt, Reads'.Asked, Reads'.Learnt, Reads'5.Asked, Reads'5.Learnt, Reads''.Asked, Reads''.Learnt, Reads'4.Asked, Reads'4.Learnt) Reads'3.Pre Reads'3.Post Inv μ
+abbrev pub Need-cast-t29 : (Inv : InvT-loop) → (μ : MeasureT-loop) → Type 0
+Need-cast-t29 = λ Inv μ. Lts.Need-cast-t29 (Reads.Asked, Reads.Learnt, Reads'.Asked, Reads'.Learnt, Reads'5.Asked, Reads'5.Learnt, Reads''.Asked, Reads''.Learnt, Reads'4.Asked, Reads'4.Learnt) Reads'3.Pre Reads'3.Post Inv μ
 
 abbrev pub Need-same-length-3 : (Inv : InvT-loop) → (μ : MeasureT-loop) → Type 0
 Need-same-length-3 = λ Inv μ. Lts.Need-same-length-3 (Reads.Asked, Reads.Learnt, Reads'.Asked, Reads'.Learnt, Reads'5.Asked, Reads'5.Learnt, Reads''.Asked, Reads''.Learnt, Reads'4.Asked, Reads'4.Learnt) Reads'3.Pre Reads'3.Post Inv μ
@@ -184,8 +196,8 @@ abbrev pub Need-returns-3 : (Inv : InvT-loop) → (μ : MeasureT-loop) → Type 
 Need-returns-3 = λ Inv μ. Lts.Need-returns-3 (Reads.Asked, Reads.Learnt, Reads'.Asked, Reads'.Learnt, Reads'5.Asked, Reads'5.Learnt, Reads''.Asked, Reads''.Learnt, Reads'4.Asked, Reads'4.Learnt) Reads'3.Pre Reads'3.Post Inv μ
 
 module _ {M : Type 1} where
-  pub spec : (Inv : InvT-loop) → (μ : MeasureT-loop) → (answer : Need-count-requires Inv μ) → (answer : Need-loop-holds Inv μ) → (answer : Need-step-at-requires Inv μ) → (answer : Need-slice-aggregate-ruling-on Inv μ) → (answer : Need-ruling-on-requires Inv μ) → (answer : Need-enum-told Inv μ) → (answer : Need-cast-t15 Inv μ) → (answer : Need-same-length Inv μ) → (answer : Need-returns Inv μ) → (answer : Need-enum-told-2 Inv μ) → (answer : Need-slice-aggregate-close Inv μ) → (answer : Need-close-requires Inv μ) → (answer : Need-same-length-2 Inv μ) → (answer : Need-returns-2 Inv μ) → (answer : Need-enum-told-3 Inv μ) → (answer : Need-slice-aggregate-note Inv μ) → (answer : Need-cast-note Inv μ) → (answer : Need-note-requires Inv μ) → (answer : Need-add-n Inv μ) → (answer : Need-loop-less Inv μ) → (answer : Need-loop-again Inv μ) → (answer : Need-cast-t26 Inv μ) → (answer : Need-same-length-3 Inv μ) → (answer : Need-returns-3 Inv μ) → Lts.Closed (Reads.Asked, Reads.Learnt, Reads'.Asked, Reads'.Learnt, Reads'5.Asked, Reads'5.Learnt, Reads''.Asked, Reads''.Learnt, Reads'4.Asked, Reads'4.Learnt) Reads'3.Pre Reads'3.Post M
-  spec = λ Inv μ answer answer' answer'' answer'3 answer'4 answer'5 answer'6 answer'7 answer'8 answer'9 answer'10 answer'11 answer'12 answer'13 answer'14 answer'15 answer'16 answer'17 answer'18 answer'19 answer'20 answer'21 answer'22 answer'23. Lts.spec (Reads.Asked, Reads.Learnt, Reads'.Asked, Reads'.Learnt, Reads'5.Asked, Reads'5.Learnt, Reads''.Asked, Reads''.Learnt, Reads'4.Asked, Reads'4.Learnt) Reads'3.Pre Reads'3.Post Inv μ answer answer' answer'' answer'3 answer'4 answer'5 answer'6 answer'7 answer'8 answer'9 answer'10 answer'11 answer'12 answer'13 answer'14 answer'15 answer'16 answer'17 answer'18 answer'19 answer'20 answer'21 answer'22 answer'23
+  pub spec : (Inv : InvT-loop) → (μ : MeasureT-loop) → (answer : Need-count-requires Inv μ) → (answer : Need-loop-holds Inv μ) → (answer : Need-step-at-requires Inv μ) → (answer : Need-slice-aggregate-ruling-on Inv μ) → (answer : Need-ruling-on-requires Inv μ) → (answer : Need-enum-told Inv μ) → (answer : Need-cast-t16 Inv μ) → (answer : Need-same-length Inv μ) → (answer : Need-returns Inv μ) → (answer : Need-enum-told-2 Inv μ) → (answer : Need-slice-aggregate-close Inv μ) → (answer : Need-slice-aggregate-close-2 Inv μ) → (answer : Need-close-requires Inv μ) → (answer : Need-same-length-2 Inv μ) → (answer : Need-returns-2 Inv μ) → (answer : Need-enum-told-3 Inv μ) → (answer : Need-slice-aggregate-note Inv μ) → (answer : Need-slice-aggregate-note-2 Inv μ) → (answer : Need-cast-note Inv μ) → (answer : Need-note-requires Inv μ) → (answer : Need-add-n Inv μ) → (answer : Need-loop-less Inv μ) → (answer : Need-loop-again Inv μ) → (answer : Need-cast-t29 Inv μ) → (answer : Need-same-length-3 Inv μ) → (answer : Need-returns-3 Inv μ) → Lts.Closed (Reads.Asked, Reads.Learnt, Reads'.Asked, Reads'.Learnt, Reads'5.Asked, Reads'5.Learnt, Reads''.Asked, Reads''.Learnt, Reads'4.Asked, Reads'4.Learnt) Reads'3.Pre Reads'3.Post M
+  spec = λ Inv μ answer answer' answer'' answer'3 answer'4 answer'5 answer'6 answer'7 answer'8 answer'9 answer'10 answer'11 answer'12 answer'13 answer'14 answer'15 answer'16 answer'17 answer'18 answer'19 answer'20 answer'21 answer'22 answer'23 answer'24 answer'25. Lts.spec (Reads.Asked, Reads.Learnt, Reads'.Asked, Reads'.Learnt, Reads'5.Asked, Reads'5.Learnt, Reads''.Asked, Reads''.Learnt, Reads'4.Asked, Reads'4.Learnt) Reads'3.Pre Reads'3.Post Inv μ answer answer' answer'' answer'3 answer'4 answer'5 answer'6 answer'7 answer'8 answer'9 answer'10 answer'11 answer'12 answer'13 answer'14 answer'15 answer'16 answer'17 answer'18 answer'19 answer'20 answer'21 answer'22 answer'23 answer'24 answer'25
 
   pub close : Lts.Closed (Reads.Asked, Reads.Learnt, Reads'.Asked, Reads'.Learnt, Reads'5.Asked, Reads'5.Learnt, Reads''.Asked, Reads''.Learnt, Reads'4.Asked, Reads'4.Learnt) Reads'3.Pre Reads'3.Post M → Statement.statement M
   unfolding Code.routine Running.tablesOf

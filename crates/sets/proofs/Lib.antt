@@ -1,0 +1,4 @@
+pub mod Bits
+pub mod Rows
+pub mod Firsts
+pub mod Unique

@@ -1,0 +1,3 @@
+pub mod Odd
+pub mod Climbs
+pub mod Told
