@@ -45,32 +45,32 @@ pub enum Walked {
     To(Stand),
 }
 
-pub fn word(way: u8, gap: u64, from: u8, to: u8) -> u64
+fn word(way: u8, gap: u64, from: u8, to: u8) -> u64
     requires { ⌜ gap < range ⌝ }
     ensures { λ r. ⌜ r ≡ wordOf way gap from to ⌝ }
 {
     ((way as u64 * RANGE + gap) * 256 + from as u64) * 256 + to as u64
 }
 
-pub fn way(leg: u64) -> u8
+fn way(leg: u64) -> u8
     ensures { λ r. ⌜ r ≡ wayOf leg ⌝ }
 {
     (leg / (65536 * RANGE)) as u8
 }
 
-pub fn gap(leg: u64) -> u64
+fn gap(leg: u64) -> u64
     ensures { λ r. ⌜ r ≡ gapOf leg ⌝ }
 {
     leg / 65536 % RANGE
 }
 
-pub fn from(leg: u64) -> u8
+fn from(leg: u64) -> u8
     ensures { λ r. ⌜ r ≡ fromOf leg ⌝ }
 {
     (leg / 256 % 256) as u8
 }
 
-pub fn to(leg: u64) -> u8
+fn to(leg: u64) -> u8
     ensures { λ r. ⌜ r ≡ toOf leg ⌝ }
 {
     (leg % 256) as u8

@@ -100,7 +100,7 @@ module _ {s : Sheet} {steps : List Step} {n : ℕ} {links : List ℕ} (K : Kin s
   pub ties-small : n ≤ root
   ties-small = ⊎-elim (λ h. omega arith) (λ h. omega (arith, K .each (n - 1) (omega arith) .linked)) (order n 0)
 
-  pub up-point : {i : ℕ} → i ≤ countTerms s → by links i < n → up links i ≤ countTerms s
+  up-point : {i : ℕ} → i ≤ countTerms s → by links i < n → up links i ≤ countTerms s
   up-point {i} h k = K .hangs i (by links i) (omega (arith, K .terms)) refl (omega (arith, ties-small)) .above
 
   -- all links are by the first n ties

@@ -1,11 +1,10 @@
--- What is known before each step, from the first on, tie by tie; and what it says of the links' shape.
+-- What is known before each step, from the first on, tie by tie.
 -- Assumes nothing.
 use Prim.Native.Nat.{ℕ, suc, _+_, _≤_}
-use mathlib.Core.Path.{_≡_}
 use mathlib.Core.Logic.{⊎-elim}
 use mathlib.Core.List.{List}
 use lib.IntN.{ℤ}
-use lib.ListN.{length, set, replicate}
+use lib.ListN.{set, replicate}
 use native.Mathlib.Nat.{eq-or-lt-of-le}
 use native.Mathlib.Omega.{arith}
 use Rattle.order.specs.First.{Set}
@@ -14,19 +13,12 @@ use Rattle.reasons.specs.Step.{Step, stepAt}
 use Rattle.reasons.specs.Rules.{Ties, TieWithin, TieRight}
 use Rattle.reasons.proofs.Paths.{right-joins}
 use Rattle.legs.specs.Legs.{gapFor, wordOf, eitherWay, tiePlace}
-use Rattle.links.specs.Links.{topOf, Rising, Joined}
+use Rattle.links.specs.Links.{topOf, Joined}
 use Rattle.strides.specs.Trodden.{Trodden}
 use Rattle.strides.proofs.Told.{trodden-tie}
-use Rattle.linked.specs.Known.{Kin, Known}
+use Rattle.linked.specs.Known.{Known}
 use Rattle.linked.proofs.Few.{kin-few}
 use Rattle.linked.proofs.Joins.{kin-start, kin-join}
-
-module _ {s : Sheet} {steps : List Step} {n : ℕ} {links : List ℕ} (K : Kin s steps n links) where
-  pub kin-size : length links ≡ 256
-  kin-size = K .size
-
-  pub kin-rising : Rising links
-  kin-rising = K .rising
 
 pub known-start : {s : Sheet} {listed : Set} {steps : List Step} {legs : List ℕ} → Trodden s listed steps 0 legs → WellFormed s →
     Known s listed steps 0 legs (replicate 256 (topOf 1))

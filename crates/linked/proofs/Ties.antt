@@ -14,9 +14,9 @@ use Rattle.reasons.specs.Step.{Step, stepAt}
 use Rattle.reasons.specs.Rules.{Ties, TieWithin, Apart, TieRight}
 use Rattle.reasons.specs.Rules.Ties.{walks, functions}
 use Rattle.reasons.specs.Rules.TieRight.{by-walks, by-functions}
-use Rattle.links.specs.Links.{root, by, Earlier, Climbs, stays, rises, topOf}
+use Rattle.links.specs.Links.{root, by, Climbs, stays, rises, topOf}
 use Rattle.links.specs.Links.Joined.{first-below}
-use Rattle.linked.specs.Known.{Kin}
+use Rattle.linked.specs.Known.{Earlier, Kin}
 use Rattle.linked.proofs.Groups.{itself-at}
 use Rattle.linked.proofs.Common.{Common, common}
 use Rattle.linked.proofs.Few.{kin-few}

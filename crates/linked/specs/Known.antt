@@ -13,7 +13,7 @@ use Rattle.reasons.specs.Rules.{Ties, Tied, Apart, TieRight}
 use Rattle.legs.specs.Legs.{range, gapFor}
 use Rattle.links.specs.declared.Apartness.{Apartness}
 use Rattle.links.specs.declared.Apartness.the-variants.{Apart as TwoGroups, Tied as OneGroup}
-use Rattle.links.specs.Links.{root, upOf, gapOf, by, Rising, Earlier}
+use Rattle.links.specs.Links.{root, upOf, gapOf, by, Rising}
 use Rattle.strides.specs.Trodden.{Trodden}
 
 -- two gaps differ by c, but for multiples of the range
@@ -52,6 +52,10 @@ pub record LinkedBy (links : List ℕ) (t : ℕ) : Type 0 where
   pub there : point < 256
   pub by-is : by links point ≡ t
   pub linked : t < root
+
+-- the ties of all links are among the first t
+pub record Earlier (links : List ℕ) (t : ℕ) : Type 0 where
+  pub earlier : (i : ℕ) → i < 256 → by links i < root → by links i < t
 
 -- the links of the first n ties, one of each, and of nothing else: so those by the first t of them have the groups after t ties
 pub record Kin (s : Sheet) (steps : List Step) (n : ℕ) (links : List ℕ) : Type 0 where

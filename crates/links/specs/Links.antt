@@ -42,10 +42,6 @@ gap links i = gapOf (getD links i 0)
 pub record Rising (links : List ℕ) : Type 0 where
   pub later : (i : ℕ) → i < 256 → by links i < root → by links i < by links (up links i)
 
--- the ties of all links are among the first t
-pub record Earlier (links : List ℕ) (t : ℕ) : Type 0 where
-  pub earlier : (i : ℕ) → i < 256 → by links i < root → by links i < t
-
 -- along links by the first t ties, i is below j, and i = j + gap
 pub data Climbs (links : List ℕ) (t : ℕ) : (i j gap : ℕ) → Type 0 where
   stays : {i : ℕ} → t ≤ by links i → Climbs links t i i 0

@@ -23,7 +23,7 @@ use Rattle.links.specs.Links.{linkOf, byOf, upOf, root, topOf, by, up, Climbs, 
 use Rattle.links.specs.Links.Joined.{first-below, second-below}
 use Rattle.links.proofs.Words.{by-link, up-link}
 use Rattle.links.proofs.Hanging.{at-lower, at-upper, at-other, three}
-use Rattle.routes.specs.Routes.{Upwards, Twice, both, PathSays, LaidPath}
+use Rattle.routes.specs.Routes.{Upwards, FromBoth, both, PathSays, LaidPath}
 use Rattle.linked.specs.Known.{Across, Kin, Known}
 use Rattle.linked.specs.Known.Across.{first-below as first-end, second-below as second-end}
 use Rattle.linked.proofs.Groups.{lifted, across-tied}
@@ -47,7 +47,7 @@ record Ends (links paths : List ℕ) (u n lower upper : ℕ) (there : Bool) : Ty
   is : there ≡ xor (eqb u n) (xor low high)
 
 module _ {links paths : List ℕ} {u n a b : ℕ} {there : Bool} where
-  ends : {odd : Bool} → Twice links paths u a b odd → there ≡ xor (eqb u n) odd → Ends links paths u n a b there
+  ends : {odd : Bool} → FromBoth links paths u a b odd → there ≡ xor (eqb u n) odd → Ends links paths u n a b there
   ends (both {x} {y} A B) e = record { low = x; high = y; from-lower = A; from-upper = B; is = e }
 
   ends-turned : Ends links paths u n a b there → Ends links paths u n b a there
@@ -143,11 +143,11 @@ module _ {s : Sheet} {listed : Set} {steps : List Step} {n : ℕ} {legs links pa
       PathSays links paths i j r → (u : ℕ) → has r u ≡ true ↔ In u p
   traced-between {t} {i} {j} {c} {p} l a b h r says u =
       let (to, from) = odd-is {u = u} (distinct (λ v m. joins v (omega arith)) h) in
-      let e = twice (has r u) (says u) in
+      let e = from-both (has r u) (says u) in
       (λ f. to (sym e ∙ f), λ m. e ∙ from m)
     where
-      twice : (odd : Bool) → Twice links paths u i j odd → odd ≡ oddly u p
-      twice odd (both A B) =
+      from-both : (odd : Bool) → FromBoth links paths u i j odd → odd ≡ oddly u p
+      from-both odd (both A B) =
           let kin = K .links-are in
           let whole = lifted n l h in
           let C = common kin n (omega arith) i j c p a whole in
