@@ -5,7 +5,8 @@ use mathlib.Core.Path.{_≡_, refl, sym, ap, _∙_}
 use mathlib.Core.Bool.{Bool}
 use mathlib.Core.List.{List}
 use lib.IntN.{ℤ, pos}
-use lib.ListN.{length, set, replicate, length-replicate}
+use lib.ListN.{length, set, replicate, length-set, length-replicate}
+use lib.Seq.{getD-set-other}
 use native.Mathlib.Numerals.{add-one}
 use native.Mathlib.Omega.{arith}
 use native.Mathlib.Decide.{ℕ-discrete}
@@ -30,7 +31,7 @@ use Rattle.linked.proofs.Known.{known-start, known-next}
 use Rattle.linked.proofs.Ties.{few-ties}
 use Rattle.traced.proofs.Told.{traced-start, traced-next}
 use Rattle.upheld.specs.Ruled.{RightTie}
-use Rattle.surveyor.specs.Inside.{Begun, Passed}
+use Rattle.surveyor.specs.Inside.{Begun, Passed, TiesLaid}
 use Rattle.surveyor.proofs.Marking.{all-blank}
 
 -- what the record of a right tie says
@@ -80,6 +81,15 @@ tie-said {s} {r = r} R = kind (ℕ-discrete (r .kind) 0) (ℕ-discrete (r .kind)
 -- before the first step nothing is tied
 pub laid-size : {sheet : List ℕ} {listed : List Bool} {legs : List ℕ} → Begun sheet listed legs → length legs ≡ 768
 laid-size B = B .legs-are .size ∙ length-replicate {A = ℕ} 768 0
+
+pub none-laid : {legs : List ℕ} → TiesLaid legs legs
+none-laid = record { size = refl; before = λ k l. refl }
+
+pub one-laid : {old legs legs' : List ℕ} (n leg : ℕ) → legs' ≡ set legs (tiePlace + n) leg → TiesLaid old legs → TiesLaid old legs'
+one-laid {legs = legs} n leg e L = rw e record {
+  size = length-set legs (tiePlace + n) leg ∙ L .size;
+  before = λ k l. getD-set-other legs (tiePlace + n) k leg 0 (λ f. omega arith) ∙ L .before k l;
+}
 
 pub none-passed : {sheet : List ℕ} {listed : List Bool} {records : List Record} {legs : List ℕ} → Begun sheet listed legs →
     Passed (sheetOf sheet) listed records 0 legs (replicate 256 (topOf 1)) (replicate 512 0)

@@ -4,7 +4,7 @@ use Prim.Native.Nat.{ℕ, _<_}
 use mathlib.Core.Path.{_≡_}
 use mathlib.Core.Bool.{Bool, true, false}
 use mathlib.Core.List.{List}
-use lib.ListN.{length, replicate}
+use lib.ListN.{length, getD, replicate}
 use Rattle.order.specs.First.{setOf, marked}
 use Rattle.sheet.specs.Limits.{roomNeeded}
 use Rattle.sheet.specs.Decode.{Sized, sheetOf}
@@ -13,7 +13,7 @@ use Rattle.grounds.specs.Table.{refused, fine, refusal}
 use Rattle.refusal.specs.Says.{numberOf as refusalNumber, placeOf as refusalPlace}
 use Rattle.stated.specs.Said.{stepsOf, Formed, recordAt}
 use Rattle.stated.specs.declared.Step.{Step as Record}
-use Rattle.legs.specs.Legs.{Laid}
+use Rattle.legs.specs.Legs.{Laid, tiePlace}
 use Rattle.linked.specs.Known.{Known}
 use Rattle.traced.specs.Traced.{Traced}
 use Rattle.basis.specs.Basis.{Lent}
@@ -63,6 +63,11 @@ pub record Ended (sheet : List ℕ) (listed : List Bool) (records : List Record)
   pub size : length listed ≡ 256
   pub legs : List ℕ
   pub upright : Upright (sheetOf sheet) (marked listed) records n legs links paths
+
+-- only legs of ties are laid: those of entries and terms are as they were
+pub record TiesLaid (old new : List ℕ) : Type 0 where
+  pub size : length new ≡ length old
+  pub before : (k : ℕ) → k < tiePlace → getD new k 0 ≡ getD old k 0
 
 -- the answer, for whatever list the marks are of
 pub record Answers (s : Sheet) (listed : List Bool) (records : List Record) (r : Survey) : Type 0 where

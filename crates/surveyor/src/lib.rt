@@ -9,7 +9,7 @@ ghost use Rattle.order.specs.First.{marked, Agree};
 ghost use Rattle.sheet.specs.Decode.{sheetOf};
 ghost use Rattle.meaning.specs.Decides.{Decides};
 ghost use Rattle.surveyor.specs.Surveyed.{numberOf, placeOf, Surveyed};
-ghost use Rattle.surveyor.specs.Inside.{RisesSays, ReadySays, Begun, Ended, Answers};
+ghost use Rattle.surveyor.specs.Inside.{RisesSays, ReadySays, Begun, Ended, Answers, TiesLaid};
 use legs::LEGS;
 use links::LINKS;
 use refusal::Checked;
@@ -107,7 +107,7 @@ fn rises(list: &[u8], entries: u8, listed: &mut [bool]) -> bool
 // Step by step, up to the first that is wrong or closes.
 fn go_through(sheet: &[u8], listed: &[bool], legs: &mut [u64], steps: &[Step]) -> Survey
     requires { ⌜ Begun (now sheet) (now listed) (now legs) ⌝ }
-    ensures { λ r. ⌜ Answers (sheetOf (now (sheet .entry))) (now (listed .entry)) (now (steps .entry)) r ⌝ }
+    ensures { λ r. ⌜ Answers (sheetOf (now (sheet .entry))) (now (listed .entry)) (now (steps .entry)) r × TiesLaid (now (legs .entry)) (now (legs .exit)) ⌝ }
 {
     let count = stated::count(steps);
     let mut links = [links::ALONE; LINKS];

@@ -1,4 +1,4 @@
--- The paths of the first n ties of a reason, as sets.
+-- The paths of the ties of a reason, as sets.
 -- Assumes nothing.
 use Prim.Native.Nat.{ℕ, suc, _<_}
 use mathlib.Core.Path.{_≡_}

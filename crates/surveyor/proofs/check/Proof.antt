@@ -26,7 +26,7 @@ returns-3 : tie.Need-returns-3
 returns-3 c =
     let through = c .before in
     let told = through .before .before .before in
-    check-told _ _ _ _ _ (prepared-of (told .before .before) .prepare .ensures) (told .enum-told2 .given .1) (through .go-through .ensures)
+    check-told _ _ _ _ _ (prepared-of (told .before .before) .prepare .ensures) (told .enum-told2 .given .1) (through .go-through .ensures .0)
 
 pub check-spec : {M : Type 1} → statement M
 check-spec =

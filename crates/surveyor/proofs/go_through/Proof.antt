@@ -13,15 +13,16 @@ use Rattle.sheet.specs.Decode.{sheetOf}
 use Rattle.stated.specs.Said.{stepsOf}
 use Rattle.upheld.specs.Ruled.{Asked, RightTie}
 use Rattle.basis.specs.Basis.{Lent}
-use Rattle.surveyor.specs.Inside.{Passed}
-use Rattle.surveyor.proofs.Noting.{laid-size, none-passed, tie-fits, passed-more}
+use Rattle.surveyor.specs.Inside.{Passed, TiesLaid}
+use Rattle.surveyor.proofs.Noting.{laid-size, none-laid, one-laid, none-passed, tie-fits, passed-more}
 use Rattle.surveyor.proofs.Answering.{few, ruled-wrong, ruled-ties, ruled-closes, no-closing-step}
 use Rattle.surveyor.proofs.go_through.Statement.{statement}
 use Rattle.surveyor.proofs.go_through.Proof.Tie as tie
 
 abbrev Inv-loop : tie.InvT-loop
 Inv-loop sheet listed legs₀ steps count links₀ paths₀ n₀ legs links paths n =
-    (n ≤ count) × (length legs ≡ 768) × (length links ≡ 256) × (length paths ≡ 512) × Passed (sheetOf sheet) listed steps n legs links paths
+    (n ≤ count) × (length legs ≡ 768) × (length links ≡ 256) × (length paths ≡ 512) ×
+    Passed (sheetOf sheet) listed steps n legs links paths × TiesLaid legs₀ legs
 
 abbrev μ-loop : tie.MeasureT-loop
 μ-loop sheet listed legs₀ steps count links₀ paths₀ n₀ legs links paths n = count - n
@@ -64,7 +65,7 @@ lent c =
     }
 
 loop-holds : tie.Need-loop-holds Inv-loop μ-loop
-loop-holds c = let pre = c .before .before .before .before .pre in (omega arith, laid-size pre, refl, refl, none-passed pre)
+loop-holds c = let pre = c .before .before .before .before .pre in (omega arith, laid-size pre, refl, refl, none-passed pre, none-laid)
 
 step-at-requires : tie.Need-step-at-requires Inv-loop μ-loop
 step-at-requires c κs = omega (arith, c .before .before .count .ensures)
@@ -82,7 +83,8 @@ returns : tie.Need-returns Inv-loop μ-loop
 returns c =
     let ruled = c .before .before in
     let P = loop-of ruled .loop .inv .4 in
-    ruled-wrong P (there ruled) _ (said-of ruled .step-at .ensures) _ (ruled .ruling-on .ensures _ _ (P .known)) (c .enum-told .given .1)
+    let wrong = ruled-wrong P (there ruled) _ (said-of ruled .step-at .ensures) _ (ruled .ruling-on .ensures _ _ (P .known)) (c .enum-told .given .1) in
+    (wrong, loop-of ruled .loop .inv .5)
 
 close-requires : tie.Need-close-requires Inv-loop μ-loop
 close-requires c κs =
@@ -101,7 +103,7 @@ same-length-2 : tie.Need-same-length-2 Inv-loop μ-loop
 same-length-2 c = same-size (loop-of (c .before .before .before .before .before))
 
 returns-2 : tie.Need-returns-2 Inv-loop μ-loop
-returns-2 c = c .close .ensures
+returns-2 c = (c .close .ensures, loop-of (c .before .before .before .before .before) .loop .inv .5)
 
 -- where the step ties
 right : (c : tie.After-enum-told3 Inv-loop μ-loop) → let ruled = c .before .before in let start = start-of (loop-of ruled) .args in
@@ -137,7 +139,7 @@ loop-again c =
     let P = loop .loop .inv .4 in
     let (leg, (path, groups)) = noted .note .ensures in
     let Q = passed-more (start-of loop .pre .well-formed) (there ruled) (said-of ruled .step-at .ensures) P (right told) leg path groups in
-    (omega arith, Q .known .legs-are .size, Q .known .links-are .size, Q .traced .size, Q)
+    (omega arith, Q .known .legs-are .size, Q .known .links-are .size, Q .traced .size, Q, one-laid _ _ leg (loop .loop .inv .5))
 
 cast-t29 : tie.Need-cast-t29 Inv-loop μ-loop
 cast-t29 c = omega (arith, few (c .before .loop .inv .4 .known))
@@ -146,7 +148,7 @@ same-length-3 : tie.Need-same-length-3 Inv-loop μ-loop
 same-length-3 c = same-size (c .before)
 
 returns-3 : tie.Need-returns-3 Inv-loop μ-loop
-returns-3 c = no-closing-step (c .before .loop .inv .4) (omega (arith, c .before .before .count .ensures))
+returns-3 c = (no-closing-step (c .before .loop .inv .4) (omega (arith, c .before .before .count .ensures)), c .before .loop .inv .5)
 
 pub go-through-spec : {M : Type 1} → statement M
 go-through-spec =
