@@ -2,6 +2,8 @@
 // gathered, and the record written.
 // It rests on the parts that do each of that, and promises the record of the list and of steps that close it, with none to spare: a list
 // that clashes always has them.
+#![tactic(auto)]
+
 ghost use Rattle.std.specs.Prelude.{◌≡◌, ◌+◌, ◌*◌, ◌<◌, ◌≤◌, true, [], ◌∷◌, ◌++◌, length, slice_index};
 ghost use Rattle.big.specs.Big.{signed_of};
 ghost use Rattle.closure.specs.Closed.{Closed as ClosedTable};

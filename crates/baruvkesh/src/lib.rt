@@ -1,6 +1,8 @@
 // The calls for other languages: a static library with four functions of C's calling convention.
 // They are the panel's `judge`, the transcript's `transcribe`, the call for reasons and the surveyor's check, each with its answer in one
 // number, and promise what those promise.
+#![tactic(auto)]
+
 ghost use Rattle.std.specs.Prelude.{◌/◌, ◌%◌};
 ghost use Rattle.promise.specs.Answered.{Answered};
 ghost use Rattle.reason.specs.Reasoned.{Reasoned};

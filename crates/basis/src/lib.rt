@@ -1,5 +1,7 @@
 // What a step of a reason is built on: the entries that it uses itself, and the ties that it rests on, as a set.
 // It rests on routes and what they mean, and promises both exactly (specs/Basis.antt).
+#![tactic(auto)]
+
 ghost use Rattle.std.specs.Prelude.{◌≡◌, List, ℕ, ◌≤◌, ◌<◌, length};
 ghost use Rattle.order.specs.First.{Set};
 ghost use Rattle.sheet.specs.Decode.{sheet_of};

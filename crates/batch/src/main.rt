@@ -1,6 +1,8 @@
 // Many sheets, for tests and tools: reads frames until the input ends, and answers each.
 // A frame is a count of two bytes, big-endian, and as many bytes; one that is cut short or over the most ends the run.
 // The answer is the panel's number (one byte), its place (two bytes, big-endian) and the whole answer room, lent full of 0xAA.
+#![tactic(auto)]
+
 ghost use Rattle.std.specs.Prelude.{◌≡◌};
 ghost use Rattle.batch.specs.Reply.{blank, Reply};
 

@@ -3,6 +3,8 @@
 // number over its most, ends the run.
 // The answer is the call's number (one byte), its place (four bytes, big-endian) and, where a reason is written, the whole room, lent full of
 // 0xAA; else a byte that is 1 where every byte of the room is still 0xAA, and 0 where one isn't.
+#![tactic(auto)]
+
 ghost use Rattle.std.specs.Prelude.{ℕ, ◌≤◌, ◌<◌, ◌≡◌, true, ◌↔◌, length, get_or};
 ghost use Rattle.paper.specs.Record.{reason_room};
 ghost use Rattle.batch_reason.specs.Reply.{blank, Reply};

@@ -2,6 +2,8 @@
 // A frame is a count (two bytes, big-endian like all) and as many bytes of a sheet, a count (one byte) and as many entry numbers, and a count
 // (two bytes) of steps and the steps as a reason record has them; one that is cut short, or has a count over its most, ends the run.
 // The answer is the check's number (one byte) and its place (four bytes).
+#![tactic(auto)]
+
 ghost use Rattle.std.specs.Prelude.{◌+◌, ◌≤◌, ◌≡◌, length};
 ghost use Rattle.recited.specs.Recited.{longest};
 ghost use Rattle.batch_survey.specs.Reply.{most_steps, Reply};

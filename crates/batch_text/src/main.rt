@@ -2,6 +2,8 @@
 // A frame is the room's size (two bytes), a count (four bytes, both big-endian) and as many bytes of text; one that is cut short, or has a
 // number over its most, ends the run.
 // The answer is the transcript's number (one byte), its place (four bytes, big-endian) and the whole room, lent full of 0xAA.
+#![tactic(auto)]
+
 ghost use Rattle.std.specs.Prelude.{◌≤◌, ◌≡◌, length};
 ghost use Rattle.batch_text.specs.Reply.{most_room, most_text, blank, Reply};
 

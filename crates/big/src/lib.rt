@@ -1,5 +1,7 @@
 // Numbers of one to eight bytes, the most significant first: read and written at any width, by one law for all of them.
 // It rests on the bytes alone; two's complement is a definition of specs/, with its laws in proofs/.
+#![tactic(auto)]
+
 ghost use Rattle.std.specs.Prelude.{◌≡◌, ◌+◌, ◌^◌, ◌≤◌, ◌<◌, length};
 ghost use Rattle.big.specs.Big.{big_of, Kept};
 

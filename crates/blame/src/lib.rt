@@ -1,6 +1,8 @@
 // The first clashing list of a clashing sheet: from the highest entry down, one is left out where the rest still clashes.
 // It rests on order's theorem that this ends in the first set, and on values that are guessed or else the verdict, from scratch for each entry.
 // It promises the record of that list (specs/Blamed.antt).
+#![tactic(auto)]
+
 ghost use Rattle.std.specs.Prelude.{◌≡◌, true, ℕ, ◌+◌, ◌≤◌, ◌<◌, length};
 ghost use Rattle.cells.specs.Cells.{cells, Kept};
 ghost use Rattle.order.specs.First.{every, marked};

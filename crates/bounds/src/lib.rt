@@ -1,5 +1,7 @@
 // A sheet's terms, and the entries of a set, as bounds in a table of gaps: one step after the other.
 // It rests on the parts and the sheet's readers, and promises of all terms and of all entries what a step promises of one.
+#![tactic(auto)]
+
 ghost use Rattle.std.specs.Prelude.{◌≤◌, ◌<◌, ◌≡◌, length};
 ghost use Rattle.closure.specs.Table.{Table};
 ghost use Rattle.cells.specs.Cells.{cells, cell};

@@ -1,6 +1,8 @@
 // The cells of a table in a lent slice: a gap read, a row taken out by value, filled, started, relaxed.
 // It rests on the gap kind and on the limit of terms, and promises of each call which cells it changes and that it leaves all others as
 // they are.
+#![tactic(auto)]
+
 ghost use Rattle.std.specs.Prelude.{◌≡◌, ℕ, ◌+◌, ◌≤◌, ◌<◌, length, get_or};
 ghost use Rattle.kind.specs.Code.{none, sum_of, Addable};
 ghost use Rattle.cells.specs.Cells.{stride, cells, cell, RowStarted, RowRelaxed};

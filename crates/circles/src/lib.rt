@@ -1,6 +1,8 @@
 // Circles of points, each lowered by the next: a tie leaves no room for slack, and any other circle leaves none at all.
 // It rests on notes' bounds.
 // It promises which circles are ties; what it leaves in the memory is free, as all that the search does.
+#![tactic(auto)]
+
 ghost use Rattle.std.specs.Prelude.{◌≡◌, ◌^◌, ◌≤◌, ◌<◌};
 ghost use Rattle.notes.specs.Limits.{places};
 ghost use Rattle.notes.specs.Search.{Worked};

@@ -1,5 +1,7 @@
 // The sheet of a typed text as code writes it, from the memory of its terms and entries.
 // It rests on big's way of writing numbers, and promises the sheet's bytes and that the rest of the room is as it was.
+#![tactic(auto)]
+
 ghost use Rattle.std.specs.Prelude.{◌≡◌, ◌+◌, ◌*◌, ◌^◌, ◌≤◌, ◌<◌, length};
 ghost use Rattle.std.proofs.lemmas.List.Edits.{sets};
 ghost use Rattle.sheet.specs.Limits.{max_terms, max_entries, sheet_length};

@@ -1,6 +1,8 @@
 // The small program for reasons: reads a sheet from standard input, up to one byte more than the longest, prints the line that `judge` prints
 // and, on a clash, the reason in words, step by step.
 // It is thin over the call for reasons, which is proved; what it reads and prints is run and compared. Records are read as far as they go.
+#![tactic(auto)]
+
 mod reasoning;
 mod records;
 mod words;

@@ -12,7 +12,7 @@ const MOST: usize = sheet::MAX_TERMS + 1;
 const HEAD: u16 = 13;
 
 // A bound, or what bounds come to: level `from` is at most level `to` + c, or less. c is two's complement.
-#[derive(Drop)]
+#[derive(Clone, Copy)]
 struct Leg {
     from: u8,
     to: u8,

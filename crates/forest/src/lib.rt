@@ -1,6 +1,8 @@
 // Groups of points as labels, a row for each tie and one more: the first row has each point by itself, and each tie makes the next row.
 // It rests on the rules for reasons and promises rows of labels, and the ties on the path between two points of a group, marked by a walk
 // over earlier ties: the number of the tie falls.
+#![tactic(auto)]
+
 ghost use Rattle.std.specs.Prelude.{◌≡◌, ◌+◌, ◌≤◌, ◌<◌, eqb, length};
 ghost use Rattle.cells.specs.Cells.{stride, cells, cell};
 ghost use Rattle.forest.specs.Labels.{Labelled, Begun, Joined, Joining, PathMarked};

@@ -1,6 +1,8 @@
 // The entries behind a step, gathered through every earlier tie that it rests on: a recursive walk over the lent steps that marks entries in
 // an array. The step number falls; a set has the ties already walked, so that each is walked once.
 // It rests on what a step is built on (basis), and promises the rules' own "behind".
+#![tactic(auto)]
+
 ghost use Rattle.std.specs.Prelude.{◌≡◌, ◌≤◌, length};
 ghost use Rattle.sheet.specs.Decode.{sheet_of};
 ghost use Rattle.stated.specs.Said.{steps_of};

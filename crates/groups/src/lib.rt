@@ -1,6 +1,8 @@
 // A term tied to those before it that have its input: the keys of the terms are kept in order, so that these stand together.
 // It rests on the keys (roots), their order (sorted) and the pairs, and promises of a term what a pass promises of all, where the keys of
 // the terms before it are listed (specs/Listed.antt).
+#![tactic(auto)]
+
 ghost use Rattle.std.specs.Prelude.{◌≡◌, ℕ, ◌+◌, ◌<◌, length, get_or};
 ghost use Rattle.closure.specs.Table.{Table};
 ghost use Rattle.cells.specs.Cells.{cells, cell};

@@ -1,6 +1,8 @@
 // A table grown over a list of bounds: two applications of the same input are tied, and the tie is listed, until a bound closes a walk under
 // zero or nothing is left to tie.
 // It rests on tables over lists of bounds (rests) and on the search for such a pair (matched), and promises what each tie came from.
+#![tactic(auto)]
+
 ghost use Rattle.std.specs.Prelude.{◌≡◌, ◌+◌, ◌*◌, ◌≤◌, ◌<◌, length};
 ghost use Rattle.cells.specs.Cells.{cells, cell, Kept};
 ghost use Rattle.sheet.specs.Decode.{Sized, sheet_of};
@@ -15,7 +17,7 @@ ghost use Rattle.grown.specs.Grown.{Grew, Front};
 use sheet::Biased;
 
 // How many bounds are listed, and how many of them the table has: fewer where the next one closes a walk under zero.
-#[derive(Drop)]
+#[derive(Clone, Copy)]
 pub struct Grown {
     pub listed: usize,
     pub put: usize,

@@ -1,6 +1,8 @@
 // Values that likely meet a sheet: levels start apart, and are lowered by the search until none has to fall.
 // It rests on search, and on meets, which checks them: nothing that the search does is trusted, and where it gives up nothing is said.
 // It promises that values it answers with meet the sheet on the set of entries, within the answer's limits.
+#![tactic(auto)]
+
 ghost use Rattle.std.specs.Prelude.{◌≡◌, true, ℕ, ◌^◌, ◌≤◌, ◌<◌, length, get_or};
 ghost use Rattle.order.specs.First.{marked};
 ghost use Rattle.sheet.specs.Decode.{Sized, sheet_of};

@@ -1,6 +1,8 @@
 // Applications of one input: where two aren't level they are tied for good, and lowered at once.
 // It rests on notes' applications and bounds, and on lowering.
 // It promises to stay within the memory lent to it; which are tied is free, as all that the search does.
+#![tactic(auto)]
+
 ghost use Rattle.std.specs.Prelude.{◌^◌, ◌≤◌, ◌<◌};
 ghost use Rattle.sheet.specs.Limits.{max_terms};
 ghost use Rattle.notes.specs.Limits.{places, memory};

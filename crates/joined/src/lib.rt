@@ -1,6 +1,8 @@
 // Whether a closed table says that two of a sheet's terms have the same input: one kind, one symbol, and arguments tied at 0.
 // It rests on the look-up of a tie (ties) and on the terms' records, which compare number by number, and each test says what both of its
 // answers show.
+#![tactic(auto)]
+
 ghost use Rattle.std.specs.Prelude.{◌≡◌, ◌≤◌, ◌<◌, length};
 ghost use Rattle.closure.specs.Closed.{Closed};
 ghost use Rattle.closure.specs.Table.{reach};

@@ -1,5 +1,7 @@
 // Bounds jotted down in three lists: from where, to where, and the gap's code.
 // It rests on the gaps of a sheet's c (steps), and promises a bound, or both of a = b + c, at a place, and every other place as it was.
+#![tactic(auto)]
+
 ghost use Rattle.std.specs.Prelude.{◌+◌, ◌<◌, length};
 ghost use Rattle.kind.specs.Code.{none, Within};
 ghost use Rattle.kind.specs.Kind.{kind_of};

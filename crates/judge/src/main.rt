@@ -1,5 +1,7 @@
 // The small program: reads a sheet from standard input, up to one byte more than the longest, and prints one line.
 // It is thin over the panel, which is proved; what it reads and prints is run and compared.
+#![tactic(auto)]
+
 use libc::{STDIN_FILENO, STDOUT_FILENO};
 use promise::Answer;
 use refusal::Refusal;

@@ -1,6 +1,8 @@
 // The keys of a term's input: two numbers that say its kind, its symbol and its arguments' levels. It rests on the sheet's terms, and
 // promises that no two inputs have the same keys.
 // Near and Ready, which say when no sum on levels overflows, stand in its specs: rules and meets rest on it and need them too.
+#![tactic(auto)]
+
 ghost use Rattle.std.specs.Prelude.{◌≡◌, ◌+◌, ◌*◌, ◌^◌, ◌≤◌, ◌<◌};
 ghost use Rattle.sheet.specs.Says.{term_says};
 ghost use Rattle.sheet.specs.Sheet.{ArgumentsBelow};
@@ -13,7 +15,7 @@ use sheet::{Symbol, Term, TermNumber};
 pub const LIMIT: u64 = 1099511627776;
 
 // The keys of a term's input: a pair of terms is two comparisons.
-#[derive(Drop)]
+#[derive(Clone, Copy)]
 pub struct Input {
     pub first: u64,
     pub second: u64,

@@ -1,6 +1,8 @@
 // The ties of a reason, laid one behind the other: each tie of functions that is listed, and before it ties by walks of its arguments where
 // they are in different groups.
 // It rests on the ties that a table was grown by (grown) and on groups (forest), and promises what each tie comes from.
+#![tactic(auto)]
+
 ghost use Rattle.std.specs.Prelude.{◌≡◌, ◌+◌, ◌≤◌, ◌<◌, length};
 ghost use Rattle.cells.specs.Cells.{stride, cells};
 ghost use Rattle.sheet.specs.Decode.{Sized, sheet_of};

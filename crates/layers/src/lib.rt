@@ -1,5 +1,7 @@
 // The least walk over a list of bounds, from a point to a point: best totals by number of bounds, in layers, then read off.
 // It rests on the gap kind and on walks of few bounds, and promises one with fewer bounds than points, than which no such walk is tighter.
+#![tactic(auto)]
+
 ghost use Rattle.std.specs.Prelude.{◌≡◌, ℕ, ◌+◌, ◌≤◌, ◌<◌, length, get_or};
 ghost use Rattle.kind.specs.Code.{none, sum_of, Addable};
 ghost use Rattle.cells.specs.Cells.{stride, cells, cell, Kept};

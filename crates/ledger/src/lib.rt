@@ -1,5 +1,7 @@
 // The ledger: the bounds of a sheet's numbers and shifts and of a set's entries, in lists, each with the name that it has in a reason.
 // It rests on the sheet's readers and the rules for reasons, and promises that each bound is what its name says, and that none is missing.
+#![tactic(auto)]
+
 ghost use Rattle.std.specs.Prelude.{◌≡◌, ◌+◌, ◌≤◌, ◌<◌, [], ◌∷◌, length};
 ghost use Rattle.kind.specs.Code.{none, Within};
 ghost use Rattle.kind.specs.Kind.{kind_of};

@@ -1,6 +1,8 @@
 // Bounds as legs: where each goes from and to, its gap, and which way it may be gone, packed in a number; one for each entry that is
 // listed, each term and each tie. And walks over them.
 // It rests on the sheet's terms and entries, knows nothing of tables, and promises of each leg the number that specs/ gives it.
+#![tactic(auto)]
+
 ghost use Rattle.std.specs.Prelude.{◌≡◌, ◌+◌, ◌≤◌, ◌<◌, length, set, take};
 ghost use Rattle.order.specs.First.{marked};
 ghost use Rattle.sheet.specs.Decode.{Sized, sheet_of};
@@ -28,14 +30,14 @@ const TIES: usize = 512;
 pub const LEGS: usize = 768;
 
 // Where a walk has come to: the point, the sum of its gaps, and whether one of them is strict.
-#[derive(Drop)]
+#[derive(Clone, Copy)]
 pub struct Stand {
     pub at: u8,
     pub gap: u64,
     pub strict: bool,
 }
 
-#[derive(Drop)]
+#[derive(Clone, Copy)]
 pub enum Walked {
     Nowhere,
     To(Stand),

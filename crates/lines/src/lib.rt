@@ -1,6 +1,8 @@
 // The lines of a typed text: a term, a relation and a term, up to the newline, and all of them to the text's end.
 // It rests on the terms' readers, and promises the first slip of a text, or that the memory holds its terms and entries
 // (specs/Reading.antt).
+#![tactic(auto)]
+
 ghost use Rattle.std.specs.Prelude.{◌≡◌, ◌<◌, []};
 ghost use Rattle.sheet.specs.Limits.{max_entries};
 ghost use Rattle.slips.specs.Outcome.{found_says};

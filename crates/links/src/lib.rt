@@ -1,6 +1,8 @@
 // Groups of points: each point is linked to one above it, by the tie that joined their groups and with the gap between them, and the
 // topmost stands for the group.
 // It rests on the range of gaps alone, and promises what its numbers say by themselves; what they say of ties is linked's.
+#![tactic(auto)]
+
 ghost use Rattle.std.specs.Prelude.{◌≡◌, ◌+◌, ◌%◌, ◌<◌, length, get_or, set};
 ghost use Rattle.legs.specs.Legs.{range};
 ghost use Rattle.links.specs.Links.{link_of, by_of, up_of, gap_of, root, top_of, Rising, Climbs, Between, Joined};
@@ -18,13 +20,13 @@ pub const ALONE: u64 = 255 * BY + RANGE;
 pub const LINKS: usize = 256;
 
 // The topmost point of a group, and the gap of a point to it.
-#[derive(Drop)]
+#[derive(Clone, Copy)]
 pub struct Found {
     pub top: u8,
     pub gap: u64,
 }
 
-#[derive(Drop)]
+#[derive(Clone, Copy)]
 pub enum Apartness {
     Apart,
     Tied(u64),

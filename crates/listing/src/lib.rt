@@ -1,5 +1,7 @@
 // The record of a clash as code writes it: the numbers of a set's entries, rising, behind a head.
 // It rests on writing's head, and promises the record's bytes (answer) and that the rest of the room is as it was.
+#![tactic(auto)]
+
 ghost use Rattle.std.specs.Prelude.{◌+◌, ◌≤◌, length};
 ghost use Rattle.order.specs.First.{marked};
 ghost use Rattle.answer.specs.Record.{head_length};

@@ -1,5 +1,7 @@
 // The look-up of a tie as a call by itself, which bench/run times: a static library with one function of C's calling convention.
 // It is the table's `tied`, and promises what that promises, and no gap where a slice isn't a table or a number no point of it.
+#![tactic(auto)]
+
 ghost use Rattle.std.specs.Prelude.{◌≡◌};
 ghost use Rattle.lookup.specs.LookedUp.{looked_up};
 

@@ -1,6 +1,8 @@
 // Levels lowered by bounds: each once, to and fro, and late in the search on along the bounds that lead on from what fell.
 // It rests on notes' bounds.
 // It promises to stay within the memory lent to it; the levels that it leaves are free, as all that the search does.
+#![tactic(auto)]
+
 ghost use Rattle.std.specs.Prelude.{◌≤◌, ◌<◌};
 ghost use Rattle.notes.specs.Limits.{memory};
 ghost use Rattle.notes.specs.Search.{Worked};

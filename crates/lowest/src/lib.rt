@@ -1,5 +1,7 @@
 // The lowest term of a sheet that is wrong, and the lowest entry: the places that the refusal table gives.
 // It rests on the rows' tests of one record and on the sheet's fields.
+#![tactic(auto)]
+
 ghost use Rattle.std.specs.Prelude.{◌≡◌};
 ghost use Rattle.sheet.specs.Decode.{Sized, stated_terms, stated_entries};
 ghost use Rattle.grounds.specs.Rows.{wrong_term_of, wrong_entry_of, lowest};

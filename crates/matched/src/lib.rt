@@ -1,5 +1,7 @@
 // Two applications that a table gives the same input and doesn't tie, looked for.
 // It rests on the tests of two terms (joined, ties), and promises a pair where there is one, and else that the table passes equalities on.
+#![tactic(auto)]
+
 ghost use Rattle.std.specs.Prelude.{◌≡◌, ◌<◌, length};
 ghost use Rattle.closure.specs.Closed.{Closed};
 ghost use Rattle.closure.specs.Table.{reach};

@@ -1,6 +1,8 @@
 // Whether D and values, given as levels, meet a sheet on a set of its entries: document 01's rules, tested one by one.
 // It rests on keys, for terms that have one input, and on rules, for a term and an entry by itself.
 // It promises yes exactly where they meet it within the answer's limits, and reads each term and each entry once.
+#![tactic(auto)]
+
 ghost use Rattle.std.specs.Prelude.{◌≡◌, ℕ, ◌+◌, ◌^◌, ◌≤◌, ◌<◌, length, get_or};
 ghost use Rattle.order.specs.First.{marked};
 ghost use Rattle.sheet.specs.Decode.{Sized, sheet_of};

@@ -1,5 +1,7 @@
 // The terms met in a typed text, by keys: a key is a term's record as one number, and a variable's has its name.
 // It rests on nothing but the memory, and promises a key's number, and that a new key goes behind those before it.
+#![tactic(auto)]
+
 ghost use Rattle.std.specs.Prelude.{◌≡◌, ◌≤◌, length};
 ghost use Rattle.sheet.specs.Limits.{max_terms};
 ghost use Rattle.met.specs.Model.{read_says, memory_cells, count_in, entered};
@@ -15,7 +17,7 @@ pub const ENTRIES: usize = COUNT + 1;
 pub const MEMORY: usize = ENTRIES + sheet::MAX_ENTRIES;
 
 // The place behind a term, and its number; or what is wrong.
-#[derive(Drop)]
+#[derive(Clone, Copy)]
 pub enum Read {
     Term(usize, TermNumber),
     Refused(Slip),

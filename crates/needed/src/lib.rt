@@ -2,6 +2,8 @@
 // the last tie down.
 // It rests on the least walk over listed bounds (layers), on paths between points (forest) and on ties as they are laid (laid), and
 // promises that all that is needed is marked, and nothing else.
+#![tactic(auto)]
+
 ghost use Rattle.std.specs.Prelude.{◌≡◌, ℕ, ◌+◌, ◌*◌, ◌%◌, ◌≤◌, ◌<◌, [], ◌∷◌, length, get_or};
 ghost use Rattle.cells.specs.Cells.{stride, cells, Kept};
 ghost use Rattle.sheet.specs.Decode.{Sized, sheet_of};

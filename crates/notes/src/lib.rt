@@ -2,6 +2,8 @@
 // applications.
 // It rests on the sheet's readers.
 // It promises which number each bound and each application is, and that what is noted stays within the memory.
+#![tactic(auto)]
+
 ghost use Rattle.std.specs.Prelude.{◌≡◌, ◌+◌, ◌*◌, ◌%◌, ◌≤◌, ◌<◌, length};
 ghost use Rattle.sheet.specs.Decode.{Sized, sheet_of};
 ghost use Rattle.sheet.specs.Limits.{max_terms};

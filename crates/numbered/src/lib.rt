@@ -2,3 +2,4 @@
 // number.
 // It rests on the text's form and on the bytes of a sheet, and has no code.
 // proofs/ shows that the sheet of a text within its limits is well-formed, and that its fields fit their bytes.
+#![tactic(auto)]

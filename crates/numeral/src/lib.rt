@@ -1,6 +1,8 @@
 // A number in a typed text, read digit by digit up to its limit.
 // It rests on nothing but the bytes, and promises the number and its end, or the first digit that is wrong, as the model has them
 // (specs/Model.antt); proofs/Told.antt says what the model's answer means for the text.
+#![tactic(auto)]
+
 ghost use Rattle.std.specs.Prelude.{◌≡◌, ◌≤◌, get_or};
 ghost use Rattle.slips.specs.Outcome.{found_says};
 ghost use Rattle.numeral.specs.Model.{Bounded, digit_of, number};

@@ -1,5 +1,7 @@
 // Two terms of one input: tied where they aren't yet. What passing equalities on means stands here too (specs/Passing.antt).
 // It rests on the steps and on joined inputs, and promises of a pair what a pass promises of all.
+#![tactic(auto)]
+
 ghost use Rattle.std.specs.Prelude.{◌≡◌, ◌≤◌, ◌<◌, length};
 ghost use Rattle.closure.specs.Table.{Table};
 ghost use Rattle.cells.specs.Cells.{stride, cells, cell};
@@ -11,7 +13,7 @@ ghost use Rattle.pairs.specs.Passing.{PairTied, Passing, Tying, passed_of, put_o
 use sheet::{Biased, TermNumber};
 
 // What a pair, a row or a pass came to.
-#[derive(Drop)]
+#[derive(Clone, Copy)]
 pub enum Passed {
     Clash,
     New,

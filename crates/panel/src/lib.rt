@@ -2,6 +2,8 @@
 // It rests on the refusal table's check, on values that are guessed and checked, and else on the verdict, its values and the first
 // clashing list, and joins them.
 // Its promise is one record (promise, specs/Answered.antt).
+#![tactic(auto)]
+
 ghost use Rattle.std.specs.Prelude.{◌≤◌, length};
 ghost use Rattle.sheet.specs.Decode.{Sized, sheet_of};
 ghost use Rattle.sheet.specs.Limits.{room_needed};

@@ -1,6 +1,8 @@
 // The reason record as code writes it: its head, its list, and its steps one behind the other.
 // It rests on big's way of writing numbers and on the writer's memory (sketch), and promises the record's bytes (specs/Record.antt) and that
 // the rest of the room is as it was.
+#![tactic(auto)]
+
 ghost use Rattle.std.specs.Prelude.{◌≡◌, true, ◌∷◌, ℕ, ◌+◌, ◌*◌, ◌^◌, ◌≤◌, ◌<◌, length, get_or};
 ghost use Rattle.big.specs.Big.{signed_of};
 ghost use Rattle.order.specs.First.{marked};

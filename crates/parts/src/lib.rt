@@ -1,6 +1,8 @@
 // A term's bounds, and an entry's, put into a table of gaps.
 // It rests on the steps and the table, and promises, for any levels: those that meet the term or the entry meet the table with it put in, and
 // one that can't be put in is met by none.
+#![tactic(auto)]
+
 ghost use Rattle.std.specs.Prelude.{◌+◌, ◌≤◌, ◌<◌, ◌≡◌, length};
 ghost use Rattle.closure.specs.Table.{Table};
 ghost use Rattle.cells.specs.Cells.{stride, cells, cell};

@@ -1,6 +1,8 @@
 // Equalities passed on: terms of one input are tied, until a pass over all terms finds nothing new.
 // It rests on the groups, and promises a saturated table that whatever met the old one and gives equal inputs equal answers meets too, or
 // that nothing does.
+#![tactic(auto)]
+
 ghost use Rattle.std.specs.Prelude.{◌≡◌, length};
 ghost use Rattle.closure.specs.Table.{Table};
 ghost use Rattle.cells.specs.Cells.{cells, cell};

@@ -1,6 +1,8 @@
 // The small tests that a step's rules come down to: a tie's c within its most, two points of one group, at a gap, a walk that comes to a
 // point at a gap, and a total that is below zero.
 // It rests on the walks over legs and the groups of links, and tells each exactly (specs/Probes.antt); upheld puts them together.
+#![tactic(auto)]
+
 ghost use Rattle.std.specs.Prelude.{◌≡◌, ◌≤◌, length};
 ghost use Rattle.big.specs.Big.{signed_of};
 ghost use Rattle.meaning.specs.Decides.{Decides};

@@ -1,5 +1,7 @@
 // A sheet's counts, terms and entries, read from its bytes.
 // It rests on the sheet's records. Its readers ask for a sheet of the stated size and promise nothing of one that isn't.
+#![tactic(auto)]
+
 ghost use Rattle.std.specs.Prelude.{◌≡◌, ◌+◌, ◌≤◌, ◌<◌, length};
 ghost use Rattle.sheet.specs.Decode.{Sized, fields_at, sheet_of};
 ghost use Rattle.sheet.specs.Says.{term_says, entry_says};

@@ -1,6 +1,8 @@
 // The call for reasons: a sheet's bytes in, the reason record of its first clashing list out, for any bytes and any room.
 // It rests on the refusal table's check, the verdict, the first clashing list (blame) and the reason argued for it (argued), and joins them.
 // Its promise is one record (specs/Reasoned.antt).
+#![tactic(auto)]
+
 ghost use Rattle.std.specs.Prelude.{◌≡◌};
 ghost use Rattle.sheet.specs.Decode.{Sized, sheet_of};
 ghost use Rattle.sheet.specs.Sheet.{WellFormed};
@@ -10,7 +12,7 @@ use refusal::{Checked, Refusal};
 use verdict::Verdict;
 
 // What the call says of a sheet. Written has the length of the record in the room.
-#[derive(Drop)]
+#[derive(Clone, Copy)]
 pub enum Reply {
     Written(u32),
     Short,

@@ -1,6 +1,8 @@
 // Steps read from bytes, as a reason record has them, and the check of a reason that is lent so.
 // It rests on the surveyor's check, and promises its answer for the steps that the bytes say (specs/Recited.antt): one whose bytes end within
 // it says nothing and is wrong.
+#![tactic(auto)]
+
 ghost use Rattle.std.specs.Prelude.{◌≡◌, ◌+◌, ◌*◌, ◌≤◌, length};
 ghost use Rattle.surveyor.specs.Surveyed.{number_of, place_of};
 ghost use Rattle.meaning.specs.Decides.{Decides};

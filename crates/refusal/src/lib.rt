@@ -1,12 +1,14 @@
 // When the panel sends a sheet back: the refusal table as code, equal to the table of grounds for any bytes and any answer room.
 // It rests on the tests of its rows and on the lowest places, and puts them in order.
+#![tactic(auto)]
+
 ghost use Rattle.std.specs.Prelude.{◌≡◌};
 ghost use Rattle.grounds.specs.Table.{refusal};
 ghost use Rattle.refusal.specs.Says.{check_says, number_of, place_of};
 
 use sheet::{EntryNumber, TermNumber};
 
-#[derive(Drop)]
+#[derive(Clone, Copy)]
 pub enum Refusal {
     Length,
     Version,
@@ -16,7 +18,7 @@ pub enum Refusal {
     Room,
 }
 
-#[derive(Drop)]
+#[derive(Clone, Copy)]
 pub enum Checked {
     Fine,
     Refused(Refusal),

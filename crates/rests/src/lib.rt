@@ -1,6 +1,8 @@
 // A table of gaps that rests on a list of bounds: those of the list put in, in order, as far as they go.
 // It rests on the table and on walks over listed bounds (layers), and promises that each cell stays the total of a walk over the bounds that
 // are in, and that the one that isn't closes a walk under zero.
+#![tactic(auto)]
+
 ghost use Rattle.std.specs.Prelude.{◌≡◌, ◌≤◌, length};
 ghost use Rattle.walked.specs.Borne.{Exact};
 ghost use Rattle.cells.specs.Cells.{stride, cells, cell};

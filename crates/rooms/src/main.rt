@@ -1,6 +1,8 @@
 // Sheet 15's last part, run: the sheet on standard input with answer rooms of 1,031 and of 1,032 bytes, as document 02 amends it; the
 // numbers stand here by themselves, so that what the limits give is held to them.
 // It is thin over the panel, and prints the number and the place of each answer on a line.
+#![tactic(auto)]
+
 use libc::{STDIN_FILENO, STDOUT_FILENO};
 use promise::Answer;
 

@@ -1,6 +1,8 @@
 // One number for all terms that a closed table gives the same input: the key of kind, symbol and the lowest points that the arguments
 // are tied to at 0.
 // It rests on the look-up of a tie (ties), and promises that such a point is the lowest, and what the key is made of.
+#![tactic(auto)]
+
 ghost use Rattle.std.specs.Prelude.{◌≡◌, ◌*◌, ◌≤◌, ◌<◌, length};
 ghost use Rattle.closure.specs.Closed.{Closed};
 ghost use Rattle.closure.specs.Table.{reach};

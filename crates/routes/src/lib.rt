@@ -2,6 +2,8 @@
 // path from a point to its topmost one has those that come an odd number of times on the way up, and so has the path between two points,
 // since what both go over cancels.
 // It rests on links and sets, and promises what their numbers say by themselves; what they say of ties is traced's.
+#![tactic(auto)]
+
 ghost use Rattle.std.specs.Prelude.{◌≡◌, ℕ, ◌<◌, length};
 ghost use Rattle.sets.specs.Sets.{has};
 ghost use Rattle.links.specs.Links.{Rising};

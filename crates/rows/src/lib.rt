@@ -1,5 +1,7 @@
 // What is wrong with a sheet, row by row of the refusal table: its length, its shape, a term, an entry; tests that equal the table's rows.
 // It rests on the grounds for refusal and on sheet's fields. Which place is given is lowest's, and which row is looked at first is refusal's.
+#![tactic(auto)]
+
 ghost use Rattle.std.specs.Prelude.{◌≡◌, ◌≤◌, length};
 ghost use Rattle.grounds.specs.Rows.{wrong_length, wrong_shape, wrong_term, wrong_entry};
 

@@ -1,6 +1,8 @@
 // Whether a term's own rule and an entry are true of levels. It rests on the sheet's terms and entries, and on what keys says of levels.
 // A level and a c held biased are natural numbers, so no test has a sign.
 // It promises yes exactly where the meaning of the values that the levels stand for says so.
+#![tactic(auto)]
+
 ghost use Rattle.std.specs.Prelude.{◌+◌, ◌*◌, ◌^◌, ◌≤◌, ◌<◌, get_or};
 ghost use Rattle.std.proofs.Math.IntN.{sub_ℕ};
 ghost use Rattle.sheet.specs.Says.{term_says, entry_says, relation_says};

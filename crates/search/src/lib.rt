@@ -2,6 +2,8 @@
 // one input are level.
 // It rests on notes, lowering, circles and inputs.
 // It promises that it ends and stays within the memory lent to it; the levels that it leaves are free.
+#![tactic(auto)]
+
 ghost use Rattle.std.specs.Prelude.{◌≤◌, length};
 ghost use Rattle.sheet.specs.Decode.{Sized, sheet_of};
 ghost use Rattle.sheet.specs.Sheet.{WellFormed, count_entries};

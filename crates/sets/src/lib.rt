@@ -1,11 +1,13 @@
 // Sets of ties, of which a right reason has at most 128: a bit for each in two words.
 // It rests on nothing, and promises of each set which ties it has.
+#![tactic(auto)]
+
 ghost use Rattle.std.specs.Prelude.{◌≡◌, false, true, not, ◌&&◌, ◌||◌, ℕ, ◌+◌, ◌*◌, ◌<◌, ◌≤◌, eqb, length};
 ghost use Rattle.std.specs.Bool.{xor};
 ghost use Rattle.sets.specs.Sets.{has, stored, put as placed, BitFrom, FirstFrom};
 
 // Ties 0 to 63, and 64 to 127.
-#[derive(Drop)]
+#[derive(Clone, Copy)]
 pub struct Ties {
     pub low: u64,
     pub high: u64,

@@ -1,5 +1,7 @@
 // The sheet: abstract in specs/, with its decoding from bytes and its limits; and its terms and entries by value, made of a record's fields.
 // It rests on big's numbers, and promises that what a record makes is what specs/ decodes of it. Records are read by reading.
+#![tactic(auto)]
+
 ghost use Rattle.std.specs.Prelude.{◌≡◌};
 ghost use Rattle.big.specs.Big.{signed_of};
 ghost use Rattle.sheet.specs.Decode.{decode_term, decode_entry, relation_of};
@@ -16,24 +18,24 @@ pub const LONGEST: usize = 6 + 6 * MAX_TERMS + 6 * MAX_ENTRIES;
 pub const ROOM_NEEDED: usize = 8 + 8 * MAX_TERMS;
 
 // A term number and an entry number: one is never taken for the other.
-#[derive(Drop)]
+#[derive(Clone, Copy)]
 pub struct TermNumber(pub u8);
 
-#[derive(Drop)]
+#[derive(Clone, Copy)]
 pub struct EntryNumber(pub u8);
 
-#[derive(Drop)]
+#[derive(Clone, Copy)]
 pub struct Symbol(pub u8);
 
 // c, held as c + 32,768, so that no code needs a sign.
-#[derive(Drop)]
+#[derive(Clone, Copy)]
 pub struct Biased(pub u16);
 
 impl Biased {
     pub const ZERO: Biased = Biased(32768);
 }
 
-#[derive(Drop)]
+#[derive(Clone, Copy)]
 pub enum Term {
     Unknown,
     Number(Biased),
@@ -42,7 +44,7 @@ pub enum Term {
     Apply2(Symbol, TermNumber, TermNumber),
 }
 
-#[derive(Drop)]
+#[derive(Clone, Copy)]
 pub enum Relation {
     Equal,
     Unequal,
@@ -51,7 +53,7 @@ pub enum Relation {
 }
 
 // Compares term a with (term b plus c).
-#[derive(Drop)]
+#[derive(Clone, Copy)]
 pub struct Entry {
     pub relation: Relation,
     pub a: TermNumber,
@@ -60,7 +62,7 @@ pub struct Entry {
 }
 
 // The six bytes of a record, c's two as one number.
-#[derive(Drop)]
+#[derive(Clone, Copy)]
 pub struct Fields {
     pub kind: u8,
     pub symbol: u8,

@@ -1,6 +1,8 @@
 // Whether terms that have one input are level, by the keys of their inputs: each is compared with those before it on the same shelf.
 // It rests on no more than the keys' being numbers, and promises that a term's row is refused exactly where a term before it has both its
 // keys and another level.
+#![tactic(auto)]
+
 ghost use Rattle.std.specs.Prelude.{◌≡◌, ◌+◌, ◌<◌, length};
 ghost use Rattle.sheet.specs.Limits.{max_terms};
 ghost use Rattle.meaning.specs.Decides.{Decides};

@@ -1,5 +1,7 @@
 // A reason as the writer keeps it in memory: ties as numbers, and walks as numbers of bounds that stand in a ledger with their names.
 // It rests on the rules for reasons, and says which steps the numbers mean (specs/Sketch.antt).
+#![tactic(auto)]
+
 ghost use Rattle.std.specs.Prelude.{◌≡◌};
 ghost use Rattle.sketch.specs.Sketch.{left_of, right_of, how_of};
 

@@ -2,10 +2,12 @@
 // answer that names one.
 // It rests on the text's form and on the numbering of its terms.
 // proofs/ shows that a text has one first slip at most, and which bytes have none before them.
+#![tactic(auto)]
+
 ghost use Rattle.std.specs.Prelude.{◌≡◌};
 ghost use Rattle.slips.specs.Says.{number_of, place_of};
 
-#[derive(Drop)]
+#[derive(Clone, Copy)]
 pub enum Slip {
     Form(usize),
     Deep(usize),
@@ -15,7 +17,7 @@ pub enum Slip {
 }
 
 // What a reader finds: the place behind it, and its number; or what is wrong.
-#[derive(Drop)]
+#[derive(Clone, Copy)]
 pub enum Found {
     At(usize, usize),
     Refused(Slip),

@@ -1,5 +1,7 @@
 // Numbers kept in ascending order: one put in, and those from a least one on found.
 // It rests on the order of numbers alone, and promises where the new one stands and where each of the others does.
+#![tactic(auto)]
+
 ghost use Rattle.std.specs.Prelude.{◌≤◌, ◌<◌, length};
 ghost use Rattle.sorted.specs.Inserted.{Ascending, Inserted, FirstFrom};
 

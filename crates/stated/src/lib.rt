@@ -1,5 +1,7 @@
 // A step of a reason as anybody states it: a record in memory, with its walks as rows of numbers, and a lent list of such records.
 // It rests on the rules' steps, and says which step a record means and when its fields have the form that a step has (specs/Said.antt).
+#![tactic(auto)]
+
 ghost use Rattle.std.specs.Prelude.{◌≡◌, ◌<◌, length};
 ghost use Rattle.stated.specs.Said.{record_at};
 
@@ -8,7 +10,7 @@ pub const WALK: usize = sheet::MAX_TERMS + 1;
 
 // `c` is two's complement. `first` and `second` are the numbers of bounds of the two walks; what stands behind so many in `there` and
 // `back` says nothing. A bound is its kind times 256, and a number.
-#[derive(Drop)]
+#[derive(Clone, Copy)]
 pub struct Step {
     pub kind: u8,
     pub a: u8,

@@ -1,6 +1,8 @@
 // A tie put into a table of gaps as two bounds, and what such a step leaves, whatever it puts in (specs/Step.antt).
 // It rests on the table, and promises, for any levels: those that meet the tie meet the table with it put in, and a tie that can't be put
 // in is met by none.
+#![tactic(auto)]
+
 ghost use Rattle.std.specs.Prelude.{◌≡◌, ◌≤◌, ◌<◌, length};
 ghost use Rattle.closure.specs.Closed.{TiedAt};
 ghost use Rattle.closure.specs.Table.{Table};

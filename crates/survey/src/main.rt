@@ -1,5 +1,7 @@
 // A reason checked by the second box: reads a sheet, whose length stands in its first two bytes, and behind it a reason record, and prints
 // one line: `yes`, `wrong at N`, `refused N at P`, or `no reason record`.
+#![tactic(auto)]
+
 ghost use Rattle.surveyor.specs.Surveyed.{number_of, place_of};
 ghost use Rattle.recited.specs.Recited.{IsRecord};
 ghost use Rattle.survey.specs.Parts.{SheetPart, Checked};

@@ -1,6 +1,8 @@
 // The surveyor's own check: a sheet, a list of entries and a reason from anybody in, and out whether the reason shows that they clash.
 // It rests on the sheet's refusals, on the rules for reasons and on a check of one step by value; it knows nothing of the panel's search, its
 // tables or its writer. Its promise is one record (specs/Surveyed.antt).
+#![tactic(auto)]
+
 ghost use Rattle.std.specs.Prelude.{◌≡◌, false, ◌≤◌, length, replicate};
 ghost use Rattle.order.specs.First.{marked, Agree};
 ghost use Rattle.sheet.specs.Decode.{sheet_of};
@@ -15,7 +17,7 @@ use routes::PATHS;
 use stated::Step;
 use upheld::Ruling;
 
-#[derive(Drop)]
+#[derive(Clone, Copy)]
 pub enum Survey {
     Refused(Refusal),
     NoList,
@@ -48,7 +50,7 @@ impl Survey {
 }
 
 // What is found before any step is looked at.
-#[derive(Drop)]
+#[derive(Clone, Copy)]
 enum Ready {
     Refused(Refusal),
     NoList,

@@ -1,5 +1,7 @@
 // The lowest term whose symbol an earlier term uses with the other count of arguments: the place that row 16 of the refusal table gives.
 // It rests on the grounds for refusal. One pass over the terms, with a mark for each symbol.
+#![tactic(auto)]
+
 ghost use Rattle.std.specs.Prelude.{◌≡◌};
 ghost use Rattle.sheet.specs.Decode.{Sized, stated_terms, sheet_of};
 ghost use Rattle.grounds.specs.Rows.{other_count_in, lowest};

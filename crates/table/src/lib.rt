@@ -1,6 +1,8 @@
 // A closed table of gaps between points: start one, put a bound in, tell whether two points are tied.
 // It rests on the table's cells (cells), closed tables (closure) and the gap kind, and promises that a table stays closed and no cell
 // leaves its range.
+#![tactic(auto)]
+
 ghost use Rattle.std.specs.Prelude.{◌≡◌, ◌≤◌, ◌<◌, length};
 ghost use Rattle.kind.specs.Code.{none, Within};
 ghost use Rattle.closure.specs.Closed.{tie, tie_of};

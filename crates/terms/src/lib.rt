@@ -1,6 +1,8 @@
 // Terms of a typed text: the reader of a term and that of an argument list call each other, and what is left of the brackets' depth falls.
 // It rests on numerals and on the terms met, and promises what the model says (specs/Model.antt); proofs/Told.antt says what that means for
 // the text.
+#![tactic(auto)]
+
 ghost use Rattle.std.specs.Prelude.{◌≤◌};
 ghost use Rattle.met.specs.Model.{read_says};
 ghost use Rattle.terms.specs.Model.{Held, Answers, value_at, shifted_at, closed_at, arguments, term};

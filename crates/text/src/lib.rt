@@ -2,3 +2,4 @@
 // It rests on the sheet's relations, and has no code.
 // proofs/ has a machine that reads a byte at a time: every printed text runs through it, whatever it hasn't stopped on begins a printed
 // text, and printing loses nothing.
+#![tactic(auto)]

@@ -1,5 +1,7 @@
 // What a closed table says of two points and of a sheet's ≠ entries: tied at c, an entry broken.
 // It rests on the table's look-up and the sheet's readers, and each test says what both of its answers show.
+#![tactic(auto)]
+
 ghost use Rattle.std.specs.Prelude.{◌≡◌, ◌≤◌, ◌<◌, length};
 ghost use Rattle.closure.specs.Closed.{Closed, TiedAt};
 ghost use Rattle.closure.specs.Table.{reach};

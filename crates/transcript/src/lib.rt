@@ -2,6 +2,8 @@
 // It rests on the lines' reader and on the sheet's writer, and joins them.
 // Its promise is one record (specs/Transcribed.antt); proofs/ shows that the reply is one only, that the panel never sends back a sheet that
 // it wrote, and that a printed text gives its own sheet.
+#![tactic(auto)]
+
 ghost use Rattle.std.specs.Prelude.{◌≡◌};
 ghost use Rattle.transcript.specs.Transcribed.{number_of, place_of, Transcribed};
 
@@ -12,7 +14,7 @@ use slips::{Found, Slip};
 pub const ROOM: usize = sheet::LONGEST;
 
 // What the call says of a text. Sheet has the length of the sheet in the room.
-#[derive(Drop)]
+#[derive(Clone, Copy)]
 pub enum Typed {
     Sheet(usize),
     Refused(Slip),

@@ -1,5 +1,7 @@
 // The small program for typed sheets: reads a text from standard input, up to one byte more than the most, and prints one line.
 // It is thin over the transcript and the panel, which are proved; what it reads and prints is run and compared.
+#![tactic(auto)]
+
 use libc::{STDIN_FILENO, STDOUT_FILENO};
 use promise::Answer;
 use transcript::Typed;

@@ -1,5 +1,7 @@
 // One step of a reason, by value: whether it is right by what is known before it; and a right tie noted for the steps behind it.
 // It rests on the small tests of probes and what legs and links mean, and tells each step's rule exactly (specs/Ruled.antt).
+#![tactic(auto)]
+
 ghost use Rattle.std.specs.Prelude.{◌≡◌, cond, List, ℕ, ◌+◌, ◌%◌, ◌<◌, length, set};
 ghost use Rattle.order.specs.First.{Set, marked};
 ghost use Rattle.sheet.specs.Decode.{sheet_of};
@@ -16,7 +18,7 @@ use legs::{RANGE, Walked};
 use sheet::{EntryNumber, Relation, Term, TermNumber};
 use stated::Step;
 
-#[derive(Drop)]
+#[derive(Clone, Copy)]
 pub enum Ruling {
     Wrong,
     Ties,

@@ -1,6 +1,8 @@
 // The values of a sheet's terms, read off a closed table: one formula (levels, specs/Level.antt) and no search.
 // It rests on closed tables (closure, table) and on levels' theorem, and writes D and one n per term as the answer record.
 // It promises that these meet the sheet on every set of entries for which the table is settled (settled, specs/Settled.antt; specs/Written.antt).
+#![tactic(auto)]
+
 ghost use Rattle.std.specs.Prelude.{◌≡◌, ℕ, ◌*◌, ◌≤◌, ◌<◌, length, get_or};
 ghost use Rattle.kind.specs.Code.{half, none};
 ghost use Rattle.closure.specs.Closed.{Closed};

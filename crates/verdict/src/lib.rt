@@ -1,6 +1,8 @@
 // The verdict on a set of a sheet's entries: all bounds in, equalities passed both ways until nothing is new, then the ≠ entries.
 // It rests on the bounds, the passes and the ties, and on the values for "holds". It answers "clashes" exactly when the meaning says
 // so, and else leaves a settled table, from which values can be read.
+#![tactic(auto)]
+
 ghost use Rattle.std.specs.Prelude.{◌≡◌, ◌≤◌, length};
 ghost use Rattle.closure.specs.Table.{Table};
 ghost use Rattle.cells.specs.Cells.{cells, cell, Kept};
@@ -11,7 +13,7 @@ ghost use Rattle.settled.specs.Settled.{points};
 ghost use Rattle.verdict.specs.Judged.{verdict_of, Judged};
 ghost use Rattle.verdict.specs.Entered.{EnteredPut};
 
-#[derive(Drop)]
+#[derive(Clone, Copy)]
 pub enum Verdict {
     Holds,
     Clashes,

@@ -1,5 +1,7 @@
 // The answer record as code writes it: the head that both records begin with, line by line of document 01's table, and the record of values.
 // It rests on big's way of writing numbers, and promises the record's bytes (answer) and that the rest of the room is as it was.
+#![tactic(auto)]
+
 ghost use Rattle.std.specs.Prelude.{◌≡◌, ◌+◌, ◌*◌, ◌<◌, ◌≤◌, length};
 ghost use Rattle.answer.specs.Record.{head_length};
 ghost use Rattle.answer.specs.Levels.{Recorded};

@@ -1,0 +1,31 @@
+-- `basis::of_walk` meets its contract: the set has the ties of the names before the counter (proofs/Having.antt).
+-- Assumes nothing.
+use Prim.Native.Nat.{◌-◌}
+use mathlib.Core.Path.{◌≡◌, refl}
+use mathlib.Core.Logic.{⊎_elim}
+use native.Mathlib.Omega.{arith}
+use Rattle.basis.proofs.Having.{adds_none, adds-tie, adds-other}
+use Rattle.basis.proofs.of_walk.Goals as goal
+
+pub loop-x-init : goal.loop-x-init
+loop-x-init c = (omega arith, adds_none c.none-ties.ensures)
+
+pub only-requires : goal.only-requires
+only-requires c =
+    let at-loop = c.before.before.before.before in
+    at-loop.requires.1 _
+    (record { at = at-loop.loop-x.x; within = omega arith; sort = omega (arith, c.if-name-ge-TIE.true); number = refl })
+
+pub loop-x-preserved : goal.loop-x-preserved
+loop-x-preserved c =
+    let loop = c.loop-x in
+    ⊎_elim
+    (λ w. rw w.3 (omega arith, adds-tie loop.invariant.1 w.1.result (omega (arith, w.0.taken)) w.1.ensures w.2.ensures))
+    (λ w. rw w.1 (omega arith, adds-other loop.invariant.1 (omega (arith, w.0.left))))
+    c.if-name-ge-TIE.branch
+
+pub returns : goal.returns
+returns c =
+    let loop = c.loop-x in
+    let end : loop.x ≡ c.args.count = omega arith in
+    rw end at loop.invariant.1

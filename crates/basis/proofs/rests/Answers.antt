@@ -1,0 +1,81 @@
+-- `basis::rests` meets its contract, kind by kind: what each of its calls asks a right step has, and the set that they make has what it
+-- rests on (proofs/Resting.antt).
+-- Assumes nothing.
+use Prim.Native.Nat.{◌≤◌}
+use mathlib.Core.Path.{◌≡◌}
+use mathlib.Core.Logic.{inl, inr, ◌≢◌}
+use lib.ListN.{length}
+use native.Mathlib.Omega.{arith}
+use borrow.Author.Rules.{rules}
+use Rattle.basis.proofs.Resting.{entry-within, terms-rest, applied, inputs-rest, named-few, walks-few, walks-rest}
+use Rattle.basis.proofs.rests.Lts as lts
+use Rattle.basis.proofs.rests.Reads as reads
+use Rattle.basis.proofs.rests.Tie as tie
+use Rattle.basis.proofs.rests.Goals as goal
+
+abbrev Start : Type 0
+Start = lts.Start tie.the-claims reads.Pre reads.Post
+
+abbrev At-match-rest : Type 0
+At-match-rest = lts.At-match-rest tie.the-claims reads.Pre reads.Post
+
+there-long : (c : Start) → length c.args.s.there ≡ 129
+there-long c = search rules
+
+back_long : (c : Start) → length c.args.s.back ≡ 129
+back_long c = search rules
+
+pub between_inputs-requires : goal.between_inputs-requires
+between_inputs-requires c =
+    let pre = c.requires in
+    let A = applied pre.0.well-formed pre.1.stands c.in-1.is in
+    (pre.0, A.0, A.1)
+
+pub between_terms-requires : goal.between_terms-requires
+between_terms-requires c =
+    let pre = c.requires in
+    (pre.0, entry-within pre.0.well-formed pre.1.stands c.in-3.is)
+
+-- where neither kind 1 nor kind 3 is met
+abbrev start_of : At-match-rest → Start
+start_of c = c.before.before.before.before
+
+module _ (c : At-match-rest) where
+  not-functions : (start_of c).args.s.kind ≢ 1
+  not-functions = c.in_default.in_default-own.rest.0.1
+
+  not_entry : (start_of c).args.s.kind ≢ 3
+  not_entry = c.in_default.in_default-own.rest.1
+
+  few : ((start_of c).args.s.first ≤ 129) × ((start_of c).args.s.second ≤ 129)
+  few = walks-few (start_of c).requires.0.well-formed (start_of c).requires.1.stands not-functions not_entry
+
+pub of_walk-first-requires : goal.of_walk-first-requires
+of_walk-first-requires c =
+    let rest = c.before.before.before.before in
+    let start = start_of rest in
+    (omega (arith, few rest, there-long start), λ t A. named-few start.requires.0.well-formed start.requires.1.stands (inl A))
+
+pub of_walk-second-requires : goal.of_walk-second-requires
+of_walk-second-requires c =
+    let rest = c.before.before.before.before.before.before in
+    let start = start_of rest in
+    (omega (arith, few rest, back_long start), λ t A. named-few start.requires.0.well-formed start.requires.1.stands (inr A))
+
+pub returns-in-1 : goal.returns-in-1
+returns-in-1 c =
+    let wf = c.requires.0.well-formed in
+    λ listed steps m legs n S. inputs-rest wf S c.in-1.is c.between_inputs.ensures
+
+pub returns-in-3 : goal.returns-in-3
+returns-in-3 c =
+    let wf = c.requires.0.well-formed in
+    λ listed steps m legs n S. terms-rest wf S c.in-3.is c.between_terms.ensures
+
+pub returns-in_default : goal.returns-in_default
+returns-in_default c =
+    let first = c.before.before.before.before in
+    let rest = first.before.before.before.before in
+    λ listed steps m legs n S.
+    walks-rest (start_of rest).requires.0.well-formed S (not-functions rest) (not_entry rest) first.of_walk-first.ensures
+    c.of_walk-second.ensures c.either.ensures

@@ -1,0 +1,48 @@
+-- `batch_reason::reply` meets its contract: the room is the part behind five bytes, in which number and place are written.
+-- Assumes nothing.
+use Prim.Native.Nat.{ℕ, ◌+◌}
+use mathlib.Core.Path.{◌≡◌, ap, ◌∙◌}
+use lib.ListN.{length, length-set, length-replicate}
+use native.Mathlib.Omega.{arith}
+use Rattle.framed.proofs.Framed.{lent-full, replied}
+use Rattle.paper.specs.Record.{reason_room}
+use Rattle.reason.specs.Reasoned.{Reasoned}
+use Rattle.batch_reason.proofs.reply.Lts as lts
+use Rattle.batch_reason.proofs.reply.Reads as reads
+use Rattle.batch_reason.proofs.reply.Tie as tie
+use Rattle.batch_reason.proofs.reply.Goals as goal
+
+abbrev Start : Type 0
+Start = lts.Start tie.the-claims reads.Pre reads.Post
+
+long : (c : Start) → length c.args.bytes.now ≡ 5 + reason_room
+long c = ap length c.requires.1 ∙ length-replicate {A = ℕ} (5 + reason_room) 0xAA
+
+pub bounds-bytes-0 : goal.bounds-bytes-0
+bounds-bytes-0 c = omega (arith, long c.before.before.before.before.before.before.before.before)
+
+pub write-requires : goal.write-requires
+write-requires c = (
+  simp length-set (omega (arith, long c.before.before.before.before.before.before.before.before.before.before)),
+  omega arith,
+)
+
+pub shape_of-bytes : goal.shape_of-bytes
+shape_of-bytes c =
+    let wrote = c.before.before.before in
+    let begun = wrote.before.before.before.before.before.before.before.before.before.before in
+    wrote.write.auto.out ∙ simp length-set (omega (arith, long begun))
+
+pub returns : goal.returns
+returns c =
+    let wrote = c.before.before.before in
+    let placed = wrote.before in
+    let numbered = placed.before.before in
+    let told = numbered.before.before.before in
+    let begun = told.before.before.before.before in
+    let all = long begun in
+    let t = rw (lent-full 5 begun.args.size reason_room 0xAA begun.args.bytes.now begun.requires.0 begun.requires.1, ← numbered.number.ensures, ← placed.place.ensures) at told.reason-told.ensures in
+    record {
+      reasoned = replied (Reasoned _ _) 4 begun.args.size begun.args.bytes.now told.reason-told.new.room _ _ _ _ (omega arith) (omega arith)
+          (omega (arith, shape_of-bytes c.before)) (omega arith) t wrote.write.ensures.0 wrote.write.ensures.1;
+    }

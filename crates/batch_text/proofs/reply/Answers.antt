@@ -1,0 +1,42 @@
+-- `batch_text::reply` meets its contract: the room is the part behind five bytes, in which number and place are written.
+-- Assumes nothing.
+use mathlib.Core.Path.{ap, ◌∙◌}
+use lib.ListN.{length, length-set}
+use native.Mathlib.Omega.{arith}
+use Rattle.transcript.proofs.Place.{place-within}
+use Rattle.transcript.specs.Transcribed.{Transcribed}
+use Rattle.framed.proofs.Framed.{lent-full, replied}
+use Rattle.batch_text.specs.Reply.{most_room, most_text}
+use Rattle.batch_text.proofs.reply.Goals as goal
+
+pub bounds-bytes-0 : goal.bounds-bytes-0
+bounds-bytes-0 c = omega (arith, ap length c.requires.2)
+
+-- a place fits its four bytes
+pub write-requires : goal.write-requires
+write-requires c =
+    let begun = c.before.before.before.before.before.before.before.before.before.before in (
+      simp length-set (omega (arith, ap length begun.requires.2)),
+      omega (arith, place-within c.transcribe-typed.ensures most_text begun.requires.0 (omega arith)),
+    )
+
+pub shape_of-bytes : goal.shape_of-bytes
+shape_of-bytes c =
+    let wrote = c.before.before.before in
+    let begun = wrote.before.before.before.before.before.before.before.before.before.before in
+    let long = ap length begun.requires.2 in
+    wrote.write.auto.out ∙ simp length-set (omega arith)
+
+pub returns : goal.returns
+returns c =
+    let wrote = c.before.before.before in
+    let placed = wrote.before in
+    let numbered = placed.before.before in
+    let typed = numbered.before.before.before in
+    let begun = typed.before.before.before.before in
+    let long = ap length begun.requires.2 in
+    let t = rw (lent-full 5 begun.args.size most_room 0xAA begun.args.bytes.now begun.requires.1 begun.requires.2, ← numbered.number.ensures, ← placed.place.ensures) at typed.transcribe-typed.ensures in
+    record {
+      transcribed = replied (Transcribed _ _) 4 begun.args.size begun.args.bytes.now typed.transcribe-typed.new.room _ _ _ _ (omega arith) (omega arith)
+          (omega (arith, shape_of-bytes c.before)) (omega arith) t wrote.write.ensures.0 wrote.write.ensures.1;
+    }

@@ -1,0 +1,34 @@
+-- `bounds::put_marked` meets its contract: the entry is put in where it is marked (proofs/Parts.antt).
+-- Assumes nothing.
+use Prim.Native.Nat.{ℕ, ◌+◌}
+use mathlib.Core.Path.{ap}
+use native.Mathlib.Omega.{arith}
+use borrow.Author.Tests.{not-true, not-false}
+use Rattle.sheet.proofs.Below.{entry-below}
+use Rattle.bounds.proofs.Parts.{unmarked, marked}
+use Rattle.bounds.proofs.put_marked.Goals as goal
+
+pub returns-then-not-set-e : goal.returns-then-not-set-e
+returns-then-not-set-e c = unmarked (not-true _ c.if-not-set-e.true-raw) c.requires.d_len.1
+
+pub entry_at-requires : goal.entry_at-requires
+entry_at-requires c =
+    let start = c.before.before.before.before.before.before.before.before.before in
+    (start.requires.sized.0, start.requires.e_bound.0)
+
+pub put_entry-requires : goal.put_entry-requires
+put_entry-requires c =
+    let terms = c.count_terms.ensures in
+    let start = c.before.before.before.before.before.before.before.before.before.before in
+    let below = entry-below start.requires.sized.1 start.requires.e_bound.0 c.entry_at.ensures in record {
+      d_len = omega (arith, below);
+      table = rw terms.0 start.requires.d_len.1;
+    }
+
+pub returns : goal.returns
+returns c =
+    let called = c.before.before.before in
+    let entry = called.before in
+    let counted = entry.before in
+    marked (not-false _ counted.if-not-set-e.false-raw) (ap (λ (z : ℕ). z + 1) counted.count_terms.ensures.0) entry.entry_at.ensures
+    called.put_entry.ensures

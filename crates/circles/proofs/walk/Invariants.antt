@@ -1,0 +1,13 @@
+-- `circles::walk` meets its contract: each step is from a point to a point.
+-- Assumes nothing.
+use Prim.Native.Nat.{◌<◌}
+use mathlib.Core.Path.{◌≡◌}
+use lib.ListN.{length}
+use Rattle.notes.specs.Limits.{places}
+use Rattle.circles.proofs.walk.Given as goal
+
+abbrev pub invariant-loop-left : goal.invariant-loop-left
+invariant-loop-left l = (length l.m ≡ length l.initial.m) × (l.x < places)
+
+abbrev pub decreases-loop-left : goal.decreases-loop-left
+decreases-loop-left l = l.left

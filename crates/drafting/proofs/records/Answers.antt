@@ -1,0 +1,25 @@
+-- `drafting::records` meets its contract: after i turns, the records of the first i cells are laid.
+-- Assumes nothing.
+use Prim.Native.Nat.{◌-◌}
+use mathlib.Core.Path.{◌≡◌, ◌∙◌}
+use native.Mathlib.Omega.{arith}
+use Rattle.drafting.proofs.Laid.{wrote, one_more}
+use Rattle.drafting.proofs.records.Goals as goal
+
+pub loop-i-preserved : goal.loop-i-preserved
+loop-i-preserved c =
+    let key = c.before.before.before.before in
+    let loop = key.before.before.before.before in
+    let args = loop.args in
+    let write = c.write in (
+      omega arith,
+      write.auto.out ∙ loop.loop-i.invariant.1,
+      one_more args.m.now args.from args.room.now args.at loop.loop-i.i (omega arith) loop.loop-i.invariant.2
+          (wrote (λ k. (c.slice_known-in-loop-i-1.given k).fits) write.auto.out (omega arith) (write.ensures.0 ∙ key.record.ensures.0) write.ensures.1),
+    )
+
+pub returns : goal.returns
+returns c =
+    let loop = c.loop-i in
+    let e : loop.i ≡ c.args.count = omega arith in
+    rw e at loop.invariant.2

@@ -1,0 +1,16 @@
+-- `gap::Gap::sum` meets its contract: a gap that is NONE gives NONE, and where both codes are odd, the half step that the sum takes off twice comes back.
+-- Assumes nothing.
+use mathlib.Core.Path.{sym}
+use native.Mathlib.Omega.{arith}
+use Rattle.kind.proofs.Codes.{sum-none-left, sum-none-right, sum_is}
+use Rattle.kind.proofs.Kind.{with-kind, kind-sum}
+use Rattle.gap.proofs.Gap.sum.Goals as goal
+
+pub returns-then-y-lt-NONE : goal.returns-then-y-lt-NONE
+returns-then-y-lt-NONE c = with-kind (sum_is _ _ _ (omega arith) (omega arith) (omega arith)) (kind-sum _ _ c.requires)
+
+pub returns-else-y-lt-NONE : goal.returns-else-y-lt-NONE
+returns-else-y-lt-NONE c = with-kind (sym (sum-none-right _ _ (omega arith))) (kind-sum _ _ c.requires)
+
+pub returns-else-x-lt-NONE : goal.returns-else-x-lt-NONE
+returns-else-x-lt-NONE c = with-kind (sym (sum-none-left _ _ (omega arith))) (kind-sum _ _ c.requires)

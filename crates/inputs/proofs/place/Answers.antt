@@ -1,0 +1,15 @@
+-- `inputs::place` meets its contract.
+-- Assumes nothing.
+use Prim.Native.Nat.{◌+◌}
+use mathlib.Core.Path.{◌∙◌}
+use lib.ListN.{length-set}
+use Rattle.notes.specs.Limits.{inputs_at}
+use Rattle.inputs.proofs.place.Goals as goal
+
+pub returns : goal.returns
+returns c =
+    let put = c.before.before.before.before.before.before.before.before in
+    let args = put.args in record {
+      answer = c.level.ensures.answer;
+      worked = c.level.ensures.worked ∙ length-set args.m.now (inputs_at + args.k) put.input_of-input.result;
+    }

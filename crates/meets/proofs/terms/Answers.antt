@@ -1,0 +1,112 @@
+-- `meets::terms` meets its contract: the terms before the counter are as the meaning asks, and their keys are kept.
+-- Assumes nothing.
+use Prim.Native.Nat.{◌-◌}
+use mathlib.Core.Path.{refl}
+use mathlib.Core.Bool.{◌&&◌}
+use lib.ListN.{get_or}
+use native.Mathlib.Omega.{arith}
+use Rattle.sheet.specs.Decode.{sheet_of}
+use Rattle.sheet.specs.Sheet.{ArgumentsBelow, term_at}
+use Rattle.sheet.specs.Says.{term_says}
+use Rattle.sheet.proofs.Below.{arguments-wider}
+use Rattle.meaning.specs.Meaning.{Defined}
+use Rattle.meaning.specs.Decides.{Decides}
+use Rattle.meaning.proofs.Decides.{shown, refuted}
+use Rattle.keys.specs.Ready.{Ready}
+use Rattle.shelves.specs.Rows.{RowAgrees}
+use Rattle.rules.proofs.Values.{level-low}
+use Rattle.meets.specs.Met.{value}
+use Rattle.meets.proofs.Keyed.{Input, input, kept-none, keyed-more, kept_more, row-functional, functional-row}
+use Rattle.meets.proofs.Counted.{both_told, term_told, terms-none, terms-more}
+use Rattle.meets.proofs.terms.Lts as lts
+use Rattle.meets.proofs.terms.Reads as reads
+use Rattle.meets.proofs.terms.Tie as tie
+use Rattle.meets.proofs.terms.Goals as goal
+
+abbrev After-term_at : Type 0
+After-term_at = lts.After-term_at tie.the-claims reads.Pre reads.Post goal.the-invariant-loop-i goal.the-decreases-loop-i
+
+abbrev After-input_of : Type 0
+After-input_of = lts.After-input_of tie.the-claims reads.Pre reads.Post goal.the-invariant-loop-i goal.the-decreases-loop-i
+
+abbrev After-defined : Type 0
+After-defined = lts.After-defined tie.the-claims reads.Pre reads.Post goal.the-invariant-loop-i goal.the-decreases-loop-i
+
+-- what the term that is read lets the other functions ask for
+asked : (c : After-term_at) → let args = c.args in
+    Ready args.v.now args.t × ArgumentsBelow args.t (term_says c.term_at-x.result)
+asked c =
+    let loop = c.before.before in
+    let pre = loop.requires in (
+      pre.t_value.2,
+      rw c.term_at-x.ensures (arguments-wider (omega arith) (pre.sized.1.arguments loop.loop-i.i (omega arith))),
+    )
+
+-- its keys
+keys : (c : After-input_of) → let loop = c.before.before.before.before in
+    let args = loop.args in
+    Input (sheet_of args.sheet.now) args.v.now loop.loop-i.i c.input_of-input.result.first c.input_of-input.result.second
+keys c =
+    let read = c.before.before in
+    input read.requires.t_value.0 read.term_at-x.ensures c.input_of-input.ensures
+
+-- what both tests of it say
+tests : (c : After-defined) → let keyed = c.before.before.before.before in
+    let loop = keyed.before.before.before.before in
+    let args = loop.args in
+    Decides
+    (RowAgrees c.row-agrees.new.keys args.v.now keyed.input_of-input.result.first keyed.input_of-input.result.second (get_or args.v.now loop.loop-i.i 0) loop.loop-i.i ×
+    Defined args.d (value (sheet_of args.sheet.now) args.v.now) (value (sheet_of args.sheet.now) args.v.now loop.loop-i.i) (term_at (sheet_of args.sheet.now) loop.loop-i.i))
+    (c.row-agrees.result && c.defined.result)
+tests c =
+    let read = c.before.before.before.before.before.before in
+    let loop = read.before.before in
+    let start = loop.before.before.before in
+    both_told _ _ c.row-agrees.ensures.agrees
+    (term_told (sheet_of start.args.sheet.now) start.args.d loop.loop-i.i start.args.v.now start.requires.t_value.0 read.term_at-x.ensures c.defined.ensures)
+
+pub loop-i-init : goal.loop-i-init
+loop-i-init c =
+    let pre = c.requires in
+    (omega arith, omega (arith, pre.t_value.0, pre.sized.1.terms), kept-none refl refl, terms-none)
+
+pub row-agrees-requires : goal.row-agrees-requires
+row-agrees-requires c =
+    let kept = c.loop-i.invariant.2 in
+    (omega arith, omega arith, kept.sized, kept.shelf, kept.shelved)
+
+pub defined-requires : goal.defined-requires
+defined-requires c =
+    let read = c.before.before.before.before.before.before in
+    let loop = read.before.before in
+    let pre = loop.requires in
+    ((asked read).0, pre.t_value.1, level-low loop.loop-i.i (asked read).0 (omega arith), (asked read).1)
+
+pub loop-i-preserved : goal.loop-i-preserved
+loop-i-preserved c =
+    let keyed = c.before.before.before.before.before.before in
+    let loop = keyed.before.before.before.before in
+    let row = c.row-agrees.ensures.1 in
+    let (agrees, own) = (tests c.before.before).yes c.if-agrees-defined.true in (
+      omega arith,
+      loop.loop-i.invariant.1,
+      kept_more loop.loop-i.invariant.2 (omega arith) (keys keyed) row.0 row.1,
+      terms-more loop.loop-i.invariant.3 own (row-functional (keyed-more loop.loop-i.invariant.2 (omega arith) (keys keyed) row.0) (keys keyed) agrees),
+    )
+
+pub returns-else-agrees-defined : goal.returns-else-agrees-defined
+returns-else-agrees-defined c =
+    let keyed = c.before.before.before.before.before.before in
+    let loop = keyed.before.before.before.before in
+    let pre = loop.requires in
+    let row = c.row-agrees.ensures.1 in
+    refuted (λ m. (tests c.before.before).no c.if-agrees-defined.false (
+      functional-row (keyed-more loop.loop-i.invariant.2 (omega arith) (keys keyed) row.0) (keys keyed) pre.sized.1
+          (rw pre.t_value.0 at pre.t_value.2.near) (omega (arith, pre.t_value.0)) (m.functions loop.loop-i.i (omega arith)),
+      m.defined loop.loop-i.i (omega arith),
+    ))
+
+pub returns : goal.returns
+returns c =
+    let met = c.loop-i.invariant.3 in
+    shown (record { defined = λ i l. met.defined i (omega arith); functions = λ i l. met.functions i (omega arith) })

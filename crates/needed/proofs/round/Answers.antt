@@ -1,0 +1,37 @@
+-- `needed::round` meets its contract.
+-- Assumes nothing.
+use native.Mathlib.Omega.{arith}
+use Rattle.layers.proofs.Rests.{sound-fewer}
+use Rattle.needed.proofs.round.Goals as goal
+
+pub find-requires : goal.find-requires
+find-requires c =
+    let start = c.before.before.before.before.before.before.before.before.before.before.before.before.before in
+    let S = start.requires.sound.0 in
+    let last = start.args.e in
+    let pre = start.requires.1 in record {
+      sound = (sound-fewer (omega arith) S, start.requires.sound.1);
+      n_le_stride = (pre.0.0, S.to< last (omega arith), S.from< last (omega arith), pre.0.1, omega arith, omega arith);
+      by_index = λ b b< h. pre.1 b (omega arith) h;
+    }
+
+pub mark_bound-requires : goal.mark_bound-requires
+mark_bound-requires c =
+    let f = c.before.before.before.before.before.before.before.before in
+    let start = f.before.before.before.before.before.before.before.before.before.before.before.before.before in
+    let kept = f.find.auto.need in
+    let pre = start.requires.1 in
+    (pre.0.3, λ h. omega (arith, pre.1 start.args.e (omega arith) h))
+
+pub returns : goal.returns
+returns c =
+    let found = c.find.ensures in record {
+      found = record { need-between = _; way = found.found; first = c.mark_bound.ensures };
+      kept = found.kept;
+    }
+
+pub overflow_cast-from : goal.overflow_cast-from
+overflow_cast-from c = omega (arith, c.shared_slice_known-5-1.given c.args.e)
+
+pub overflow_cast-to : goal.overflow_cast-to
+overflow_cast-to c = omega (arith, c.shared_slice_known-6-1.given c.args.e)

@@ -1,0 +1,16 @@
+-- `pairs::tie_new` meets its contract: the answers of proofs/Pairs.antt.
+-- Assumes nothing.
+use native.Mathlib.Omega.{arith}
+use Rattle.pairs.specs.Passing.{already}
+use Rattle.pairs.proofs.Pairs.{tied-new}
+use Rattle.pairs.proofs.tie_new.Goals as goal
+
+pub returns-then-tied_at : goal.returns-then-tied_at
+returns-then-tied_at c = already (c.tied_at.ensures.yes c.if-tied_at.true)
+
+pub returns : goal.returns
+returns c =
+    let tied = c.before.before.before.before in
+    let untied = tied.before.before in
+    let looked = untied.before in
+    rw c.put.ensures (tied-new (omega arith) (omega arith) (looked.tied_at.ensures.no untied.if-tied_at.false) tied.put_tie.ensures)

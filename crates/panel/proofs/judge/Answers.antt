@@ -1,0 +1,26 @@
+-- `panel::judge` meets its contract: the table decides, and then the meaning.
+-- Assumes nothing.
+use mathlib.Core.Path.{sym, ap, ◌∙◌}
+use Rattle.refusal.specs.Says.{check_says}
+use Rattle.grounds.proofs.Fine.{fine-formed}
+use Rattle.grounds.proofs.Replies.{fine-sheet}
+use Rattle.panel.proofs.Join.{answered-refused, answered-decided}
+use Rattle.panel.proofs.judge.Goals as goal
+
+pub decide-requires : goal.decide-requires
+decide-requires c =
+    let told = c.before.before in
+    let checked = told.before.before in
+    let (sheet, room) = fine-sheet _ _ (sym checked.check.ensures ∙ ap check_says told.in-Fine.is) in
+    let formed = fine-formed _ sheet in
+    (formed.0, formed.1, room)
+
+pub returns-in-Refused : goal.returns-in-Refused
+returns-in-Refused c =
+    let told = c.before.before in
+    answered-refused _ _ _ _ (sym told.check.ensures ∙ ap check_says told.in-Refused.is)
+
+pub returns-in-Fine : goal.returns-in-Fine
+returns-in-Fine c =
+    let told = c.before.before.before.before.before in
+    answered-decided _ _ _ _ _ (sym told.check.ensures ∙ ap check_says told.in-Fine.is) c.decide.ensures

@@ -1,0 +1,12 @@
+-- `recited::first_few` meets its contract: the steps that are read are kept (proofs/Reading.antt). The measure is how many more are read at most.
+-- Assumes nothing.
+use Prim.Native.Nat.{◌-◌}
+use Rattle.recited.specs.Reading.{few}
+use Rattle.recited.proofs.Reading.{Reads, Kept}
+use Rattle.recited.proofs.first_few.Given as goal
+
+abbrev pub invariant-loop-n : goal.invariant-loop-n
+invariant-loop-n l = Reads few l.bytes l.at l.n × Kept few l.bytes l.n l.steps
+
+abbrev pub decreases-loop-n : goal.decreases-loop-n
+decreases-loop-n l = few - l.n

@@ -1,0 +1,29 @@
+-- `recited::is_record` meets its contract: each test is one of a record's conditions (proofs/Counting.antt).
+-- Assumes nothing.
+use mathlib.Core.Logic.{⊎_elim}
+use native.Mathlib.Omega.{arith}
+use borrow.Author.Tests.{eqb-true, eqb-false, not-true, not-false}
+use Rattle.meaning.proofs.Decides.{refuted}
+use Rattle.recited.proofs.Counting.{steps-within, record-tells}
+use Rattle.recited.proofs.is_record.Goals as goal
+
+pub returns-then-record-lt-HEAD : goal.returns-then-record-lt-HEAD
+returns-then-record-lt-HEAD c = refuted (λ R. omega (arith, R.long))
+
+pub returns-then-read-record : goal.returns-then-read-record
+returns-then-read-record c =
+    refuted
+    λ R. ⊎_elim (λ w. omega (arith, R.stated, c.read.ensures.0))
+    (λ w. eqb-false _ _ (not-true _ w.2.taken) R.one) c.then-read-record.branch
+
+pub returns-then-record-first : goal.returns-then-record-first
+returns-then-record-first c = refuted λ R. omega (arith, steps-within R.steps, c.list_end-first.ensures)
+
+pub returns : goal.returns
+returns c =
+    let ask = c.before.before in
+    let else4 = ask.before.before in
+    let else3 = else4.before.before in
+    let read = else3.before.before.before in
+    record-tells read.args.«record».now c.has_steps.result (omega arith) (omega arith)
+    (eqb-true _ _ (not-false _ else3.if-record-ne1.false-raw)) else4.list_end-first.ensures ask.read-2.ensures.0 c.has_steps.ensures

@@ -1,0 +1,70 @@
+-- `table::start` meets its contract: the rows before the counter are started.
+-- Assumes nothing.
+use Prim.Native.Nat.{ℕ, ◌+◌, ◌*◌, ◌-◌, ◌≤◌, ◌<◌}
+use mathlib.Core.Path.{◌≡◌, refl, ◌∙◌}
+use mathlib.Core.List.{List}
+use lib.ListN.{get_or}
+use native.Mathlib.Omega.{arith}
+use native.Mathlib.Decide.{dec_lt}
+use borrow.Author.Count.{below_more}
+use Rattle.closure.proofs.Table.{fresh}
+use Rattle.kind.specs.Code.{base, none}
+use Rattle.cells.specs.Cells.{stride, cell, RowStarted}
+use Rattle.table.specs.Inserted.{Started}
+use Rattle.table.proofs.start.Lts as lts
+use Rattle.table.proofs.start.Reads as reads
+use Rattle.table.proofs.start.Tie as tie
+use Rattle.table.proofs.start.Goals as goal
+
+abbrev After-loop : Type 0
+After-loop = lts.After-loop tie.the-claims reads.Pre reads.Post goal.the-invariant-loop-i goal.the-decreases-loop-i
+
+-- the rows below m are started
+record Rows (old d : List ℕ) (n m : ℕ) : Type 0 where
+  same : (i : ℕ) → i < m → cell d i i ≡ base
+  apart : (i : ℕ) → i < m → (j : ℕ) → j < n → (i ≡ j → ⊥) → cell d i j ≡ none
+  right : (i j : ℕ) → n ≤ j → j < stride → cell d i j ≡ cell old i j
+  below : (k : ℕ) → m * stride ≤ k → get_or d k 0 ≡ get_or old k 0
+
+more : (old d new : List ℕ) (n i : ℕ) → i < n → n ≤ stride → Rows old d n i → RowStarted d new i n → Rows old new n (i + 1)
+more old d new n i h n≤ R S =
+    record {
+      same = below_more (λ k. cell new k k ≡ base) i (λ k l. S.before (k * stride + k) (omega arith) ∙ R.same k l) S.same;
+      apart = below_more (λ k. (j : ℕ) → j < n → (k ≡ j → ⊥) → cell new k j ≡ none) i
+          (λ k l j p ne. S.before (k * stride + j) (omega arith) ∙ R.apart k l j p ne)
+          S.apart;
+      right = λ k j p q. go k j p q (dec_lt k i) ∙ R.right k j p q;
+      below = λ k p. S.after k (omega arith) ∙ R.below k (omega arith);
+    }
+  where
+    go : (k j : ℕ) → n ≤ j → j < stride → Dec (k < i) → cell new k j ≡ cell d k j
+    go k j p q (yes l) = S.before (k * stride + j) (omega arith)
+    go k j p q (no l) = S.after (k * stride + j) (omega arith)
+
+all : (old d : List ℕ) (n : ℕ) → n ≤ stride → Rows old d n n → Started n old d
+all old d n h R =
+    record {
+      same = R.same;
+      apart = λ i j p q ne. R.apart i p j q ne;
+      table = fresh n (cell d) (omega arith) R.same (λ i j p q ne. R.apart i p j q ne);
+      kept = record { right = R.right; below = R.below };
+    }
+
+pub loop-i-init : goal.loop-i-init
+loop-i-init c = (
+  omega arith,
+  refl,
+  record { same = λ k l. absurd (omega arith); apart = λ k l j p ne. absurd (omega arith); right = λ k j p q. refl; below = λ k p. refl },
+)
+
+pub loop-i-preserved : goal.loop-i-preserved
+loop-i-preserved c =
+    let called = c.before.before.before in
+    let turn = called.before.before in
+    (omega arith, omega (arith, called.start_row.auto.d), more _ _ _ _ _ (omega arith) (omega arith) turn.loop-i.invariant.2 called.start_row.ensures)
+
+at-end : (c : After-loop) → c.loop-i.i ≡ c.args.n
+at-end c = omega arith
+
+pub returns : goal.returns
+returns c = all _ _ _ (omega arith) (rw (at-end c.before) at c.loop-i.invariant.2)

@@ -1,0 +1,62 @@
+-- `values::levels` meets its contract: after i turns, the first i levels stand, each by the formula of levels' specs/Level.antt, which fits.
+-- Assumes nothing.
+use Prim.Native.Nat.{ℕ, ◌+◌, ◌*◌, ◌-◌, ◌≤◌, ◌<◌}
+use mathlib.Core.Path.{◌≡◌, refl, ◌∙◌, ap, ap₂}
+use mathlib.Core.List.{List}
+use lib.ListN.{length, get_or, set, length-set}
+use lib.Seq.{get_or-set_same, get_or-set_other}
+use native.Mathlib.Nat.{mul-le-mul}
+use native.Mathlib.Omega.{arith}
+use borrow.Author.Count.{below_more}
+use Rattle.kind.specs.Code.{none}
+use Rattle.closure.specs.Table.{reach}
+use Rattle.levels.specs.Level.{sum_to, term_of, other_of, lowest_of, level_of}
+use Rattle.cells.specs.Cells.{stride, cell}
+use Rattle.values.proofs.levels.Goals as goal
+
+-- the formula, from what the three loops ensure
+level-is : (d : ℕ → ℕ → ℕ) (n i o t p : ℕ) → o ≡ other_of n (reach n) (d i) → t ≡ sum_to n (λ s. term_of o (d i s)) → p ≡ lowest_of d i →
+    n * t + p ≡ level_of n (reach n) d i
+unfolding level_of
+level-is d n i o t p e f g = ap₂ (λ (t p : ℕ). n * t + p) (f ∙ ap (λ (o : ℕ). sum_to n (λ s. term_of o (d i s))) e) g
+
+product : (n t : ℕ) → n ≤ stride → t ≤ n * none → n * t ≤ stride * (stride * none)
+product n t h k = mul-le-mul {n₂ = stride} {m₂ = stride * none} h (omega arith)
+
+more : (f : ℕ → ℕ) (v : List ℕ) (i x : ℕ) → i < length v → x ≡ f i → ((k : ℕ) → k < i → get_or v k 0 ≡ f k) → (k : ℕ) → k < i + 1 → get_or (set v i x) k 0 ≡ f k
+more f v i x l e h = below_more _ i (λ k p. get_or-set_other v i k x 0 (omega arith) ∙ h k p) (get_or-set_same v i x 0 l ∙ e)
+
+pub loop-i-init : goal.loop-i-init
+loop-i-init c = (omega arith, refl, λ k l. absurd (omega arith))
+
+pub overflow_mul-v : goal.overflow_mul-v
+overflow_mul-v c = omega (arith, product _ _ (omega arith) c.total.ensures.1)
+
+pub lowest-requires : goal.lowest-requires
+lowest-requires c =
+    let head = c.before.before.before.before in
+    let start = head.before.before.before in
+    let C = start.requires.3 in
+    (omega arith, omega arith, λ k l. omega (arith, (C.range k head.loop-i.i (omega arith) (omega arith)).low, C.small))
+
+pub overflow_add-v : goal.overflow_add-v
+overflow_add-v c = omega (arith, product _ _ (omega arith) c.total.ensures.1)
+
+pub loop-i-preserved : goal.loop-i-preserved
+loop-i-preserved c =
+    let total = c.before.before in
+    let head = total.before.before.before in
+    let start = head.before.before.before in (
+      omega arith,
+      simp length-set (omega arith),
+      more _ head.loop-i.v head.loop-i.i _ (omega arith)
+          (level-is (cell start.args.d.now) _ _ _ _ _ (omega arith) total.total.ensures.0 c.lowest.ensures.0)
+          head.loop-i.invariant.2,
+    )
+
+pub returns : goal.returns
+returns c =
+    let head = c.before.before in
+    let start = head.before.before.before in
+    let end : head.loop-i.i ≡ start.args.n = omega arith in
+    λ i l. head.loop-i.invariant.2 i (omega arith)

@@ -1,0 +1,54 @@
+-- `values::lowest` meets its contract: the answer is what the look-up from k on finds.
+-- Assumes nothing.
+use Prim.Native.Nat.{ℕ, ◌+◌, ◌-◌, ◌≤◌, ◌<◌}
+use mathlib.Core.Path.{◌≡◌, refl, sym, ◌∙◌}
+use mathlib.Core.Bool.{Bool, true, false, cond}
+use native.Mathlib.Nat.{sub-zero}
+use native.Mathlib.Omega.{arith}
+use Rattle.kind.specs.Code.{none}
+use Rattle.closure.specs.Closed.{tie, tie_of}
+use Rattle.closure.proofs.Ties.{tie-tied}
+use Rattle.levels.specs.Level.{first}
+use Rattle.cells.specs.Cells.{cell}
+use Rattle.values.proofs.Loops.{first-here, first_on, first-end}
+use Rattle.values.proofs.lowest.Goals as goal
+
+-- the look-up from k on
+abbrev from : (ℕ → ℕ → ℕ) → ℕ → ℕ → ℕ
+from d i k = first (λ m. tie (d i m) (d m i)) (i - k) k
+
+found : (d : ℕ → ℕ → ℕ) (i k r : ℕ) → k < i → r ≡ tie_of d i k → r < none → from d i k ≡ k
+found d i k r l e h = first-here _ i k l (go (tie (d i k) (d k i)) (omega arith))
+  where
+    go : (b : Bool) → cond b (d i k) none < none → b ≡ true
+    go true p = refl
+    go false p = absurd (omega arith)
+
+-- a gap back of more than 0 leaves a tie below none
+passed : (d : ℕ → ℕ → ℕ) (i k r : ℕ) → k < i → 0 < d k i → r ≡ tie_of d i k → none ≤ r → from d i k ≡ from d i (k + 1)
+passed d i k r l b e h = first_on _ i k l (go (tie (d i k) (d k i)) refl (omega arith))
+  where
+    go : (t : Bool) → tie (d i k) (d k i) ≡ t → none ≤ cond t (d i k) none → t ≡ false
+    go true f p = absurd (omega (arith, tie-tied d i k f))
+    go false f p = refl
+
+pub loop-k-init : goal.loop-k-init
+loop-k-init c = (omega arith, rw sub-zero)
+
+pub returns-then-tied-lt-NONE : goal.returns-then-tied-lt-NONE
+returns-then-tied-lt-NONE c =
+    let called = c.before.before.before in
+    let loop = called.loop-k in
+    let d = cell called.args.d.now in
+    (sym (loop.invariant.1 ∙ found d _ _ _ (omega arith) called.tied.ensures c.if-tied-lt-NONE.true), omega arith)
+
+pub loop-k-preserved : goal.loop-k-preserved
+loop-k-preserved c =
+    let called = c.before.before.before in
+    let loop = called.loop-k in
+    let start = called.before.before.before.before in
+    let d = cell start.args.d.now in
+    (omega arith, loop.invariant.1 ∙ passed d _ _ _ (omega arith) (start.requires.2 loop.k (omega arith)) called.tied.ensures c.if-tied-lt-NONE.false)
+
+pub returns : goal.returns
+returns c = (sym (c.loop-k.invariant.1 ∙ first-end _ _ _ (omega arith) (omega arith)), omega arith)

@@ -1,0 +1,13 @@
+-- `values::lowest` meets its contract: the answer is what the look-up from k on finds.
+-- Assumes nothing.
+use Prim.Native.Nat.{◌-◌, ◌≤◌}
+use mathlib.Core.Path.{◌≡◌}
+use Rattle.levels.specs.Level.{lowest_of}
+use Rattle.cells.specs.Cells.{cell}
+use Rattle.values.proofs.lowest.Given as goal
+
+abbrev pub invariant-loop-k : goal.invariant-loop-k
+invariant-loop-k l = (l.k ≤ l.i) × (lowest_of (cell l.d) l.i ≡ from (cell l.d) l.i l.k)
+
+abbrev pub decreases-loop-k : goal.decreases-loop-k
+decreases-loop-k l = l.i - l.k

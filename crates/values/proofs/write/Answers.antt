@@ -1,0 +1,39 @@
+-- `values::write` meets its contract: the record of the levels of all points.
+-- Assumes nothing.
+use Prim.Native.Nat.{ℕ, ◌+◌, ◌*◌, ◌≤◌, ◌<◌}
+use mathlib.Core.Path.{◌≡◌}
+use native.Mathlib.Nat.{mul-le-mul}
+use native.Mathlib.Omega.{arith}
+use Rattle.sheet.specs.Limits.{max_terms}
+use Rattle.values.proofs.Fill.{written}
+use Rattle.values.proofs.write.Goals as goal
+
+square : (n : ℕ) → n ≤ max_terms + 1 → n * n < 65536
+square n h = omega (arith, mul-le-mul h h)
+
+pub levels-requires : goal.levels-requires
+levels-requires c =
+    let start = c.before.before.before.before.before.before in
+    (omega arith, omega (arith, start.requires.sized.1.terms), omega (arith, start.requires.sized.1.terms), rw c.count_terms-terms.ensures.0 start.requires.closed)
+
+pub overflow_mul-n : goal.overflow_mul-n
+overflow_mul-n c =
+    let counted = c.before.before.before.before.before in
+    let start = counted.before.before.before.before in
+    omega (arith, square (counted.count_terms-terms.result + 1) (omega (arith, start.requires.sized.1.terms)))
+
+pub holds-requires : goal.holds-requires
+holds-requires c =
+    let counted = c.before.before.before.before.before.before in
+    let start = counted.before.before.before.before in
+    (omega arith, omega (arith, start.requires.sized.1.terms), omega (arith, start.requires.sized.1.terms), square (counted.count_terms-terms.result + 1) (omega (arith, start.requires.sized.1.terms)))
+
+pub returns : goal.returns
+returns c =
+    let made = c.before.before.before in
+    let counted = c.before.before.before.before.before.before.before.before.before in
+    let start = counted.before.before.before.before in
+    let e : counted.count_terms-terms.result ≡ _ = counted.count_terms-terms.ensures.0 in record {
+      length = omega arith;
+      record = written _ _ _ start.requires.sized.1 start.requires.closed (rw e at c.levels.ensures) (rw e at made.holds.ensures.record);
+    }

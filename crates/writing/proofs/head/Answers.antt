@@ -1,0 +1,11 @@
+-- `writing::head` meets its contract: the number's digits are the head.
+-- Assumes nothing.
+use Rattle.std.proofs.Common.{arith}
+use Rattle.writing.proofs.Heads.{headed}
+use Rattle.writing.proofs.head.Goals as goal
+
+pub returns : goal.returns
+returns c =
+    let start = c.before.before.before.before.before.before in
+    let wrote = c.write.ensures in
+    headed (λ k. (c.slice_known-2-1.given k).fits) (omega arith) start.requires.2 (omega (arith, wrote.0)) wrote.1
