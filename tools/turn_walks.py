@@ -46,6 +46,7 @@ def info(key):
     o.loopnames={canon(lo):(ln,i) for i,(lo,ln,_,_) in enumerate(o.loops)}
     o.pre=(v['pre'] or {}).get('fields')
     o.armat={canon(p[0]):v['arms'][i] for i,p in enumerate(v['places']) if v['arms'][i]}
+    o.wrapped={canon(p[0]) for i,p in enumerate(v['places']) if v['typed'][i] or v['arms'][i]}
     o.asked=v['asked']
     return o
 def chunks(t):
@@ -92,7 +93,7 @@ def parse(t):
 def toks(s): return TOK.findall(s)
 class Conv:
     def __init__(s,o,helpers,answers,flags):
-        s.cur=None; s.o=o; s.helpers=helpers; s.answers=answers; s.flags=flags
+        s.cur=None; s.proj={}; s.o=o; s.helpers=helpers; s.answers=answers; s.flags=flags
     def rec(s,names,path,i,unit):
         """consume nested pair path at i; return (name or None, new i)"""
         n=len(names); k=0; j=i
@@ -109,11 +110,12 @@ class Conv:
     def path(s,base,kind,fields,view):
         """convert a path; returns (text, kind)"""
         out=base; i=0
-        if kind=='place':
-            nb=0
+        if isinstance(kind,tuple) and kind[0]=='place':
+            _,b,nb,vw=kind
+            out=b
             while i<len(fields) and fields[i]=='before': nb+=1; i+=1
             if i==len(fields):
-                return out+('.before' if view else '')+'.before'*nb,'place'
+                return out+('.before' if vw else '')+'.before'*nb,('place',b,nb,vw)
             f=fields[i]; cf=canon(f)
             if f in('args','ranges','lifetimes','type_inv','utf8'):
                 return out+''.join('.'+x for x in fields[i:]),None
@@ -196,8 +198,45 @@ class Conv:
                 fs.append(ts[j+1]); j+=2
             return fs,j
         kinds={}
+        def place(i):
+            """a place expression at token i: (kind, j) with no fields consumed but .before"""
+            if i>=len(ts): return None
+            x=ts[i]
+            if x=='(':
+                j=i+1
+                while j<len(ts) and ts[j].isspace(): j+=1
+                r=place(j)
+                if not r: return None
+                k,j=r
+                while j<len(ts) and ts[j].isspace(): j+=1
+                if j<len(ts) and ts[j]==')': return befores(k,j+1)
+                return None
+            if not re.match(r"[^\W\d]",x): return None
+            if i>0 and ts[i-1]=='.': return None
+            if x in env and isinstance(env[x],tuple) and env[x][0]=='place': return befores(env[x],i+1)
+            if x in s.proj and x not in env:
+                j=i+1
+                if j>=len(ts) or not ts[j].isspace(): return None
+                while j<len(ts) and ts[j].isspace(): j+=1
+                if j<len(ts) and ts[j]=='(' or (j<len(ts) and ts[j] in env):
+                    r=place(j)
+                    if r:
+                        k,j=r
+                        return ('place',k[1],k[2]+s.proj[x],k[3]),j
+            return None
+        def befores(k,j):
+            n=k[2]
+            while j+1<len(ts) and ts[j]=='.' and ts[j+1]=='before': n+=1; j+=2
+            return ('place',k[1],n,k[3]),j
         while i<len(ts):
             x=ts[i]
+            r=place(i)
+            if r:
+                k,j=r
+                fs,j2=fields_at(j)
+                t_,k2=s.path('',k,fs,False)
+                out.append(t_); kinds[t_]=k2; i=j2
+                continue
             if x=='(':
                 stack.append(len(out)); out.append(x); i+=1; continue
             if x==')':
@@ -206,12 +245,7 @@ class Conv:
                 out.append(x); i+=1
                 fs,j=fields_at(i)
                 h=re.match(IDENT,inner)
-                if st is not None and h and s.helpers.get(h[0])=='place':
-                    if fs:
-                        txt=''.join(out[st:]); r,k=s.path(txt,'place',fs,False)
-                        del out[st:]; out.append(r); i=j
-                        kinds[r]=k
-                elif st is not None and re.fullmatch(r"[\w'.<>₀-₉-]+",inner) and inner in kinds and fs:
+                if st is not None and re.fullmatch(r"[\w'.<>₀-₉-]+",inner) and inner in kinds and fs:
                     txt=''.join(out[st:]); k0=kinds[inner]
                     r,k=s.path(txt,k0,fs,False)
                     del out[st:]; out.append(r); i=j
@@ -240,10 +274,17 @@ class Conv:
                             e=''.join(out[st:]).strip()
                             k=kinds.get(e)
                             h=re.match(IDENT,e)
-                            if k is None and h and s.helpers.get(h[0])=='place' and '.' not in e.split()[-1][-1:]:
-                                # helper application
-                                if e in kinds: k=kinds[e]
-                                elif re.match(IDENT+r"(\s+.*)?$",e,re.S) and not re.search(r"\)\.\w+$",e): k='place'
+                            if isinstance(k,tuple) and k[0]=='place' and re.fullmatch(r"[\w'.-]+",e):
+                                env[name]=k
+                                # drop the let: back to before `let`
+                                cut=''.join(out)
+                                st2=st
+                                while out and out[st2-1]!='let': st2-=1
+                                del out[st2-1:]
+                                i+=1
+                                # eat following whitespace
+                                if i<len(ts) and ts[i].isspace(): i+=1
+                                continue
                             if k: env[name]=k
                     out.append(x); i+=1; continue
                 fs,j=fields_at(i+1)
@@ -384,12 +425,20 @@ def convert(key,folder):
     C=Conv(o,helpers,answers,flags)
     inv=[];ans=[]
     for it in defs:
+        if it['k']!='def' or 'need' in it: continue
+        bl='\n'.join(l for l in it['b'] if not l.startswith('unfolding')).strip()
+        mm=re.fullmatch(re.escape(it['n'])+r"\s+("+IDENT+r")\s*=\s*(.*)",bl,re.S)
+        if re.match(r"\s*tie\.",it['res']) and len(it['args'])==1 and mm:
+            ts=C.text(mm[2],{mm[1]:('place','X',0,False)},set()).strip()
+            if re.fullmatch(r"X(\.before)*",ts): C.proj[it['n']]=ts.count('.before'); it['proj']=True
+    for it in defs:
         if it['k']=='raw':
             body='\n'.join(it['b']).rstrip('\n')
-            env={n:'place' for g in re.findall(r'\(((?:[^\W\d][\w]*\s*)+):\s*tie\.',body) for n in g.split()}
+            env={n:('place',n,0,False) for g in re.findall(r'\(((?:[^\W\d][\w]*\s*)+):\s*tie\.',body) for n in g.split()}
             m=re.search(r':\s*tie\.([\w-]+)',body); C.cur=canon(m[1]) if m else None
             ans.append(('\n'.join(it['c'])+'\n' if it['c'] else '')+C.text(body,env,set()))
             continue
+        if it.get('proj'): continue
         sig='\n'.join(it['sig'])
         sg=sig.strip()
         b=it['b'][:]
@@ -436,7 +485,7 @@ def convert(key,folder):
             ps=mm[1].split()
             cv=ps[0] if ps else 'c'
             C.cur=o.askedat.get(canon(it['need']))
-            rest=C.text(mm[2],{cv:'place'},{cv})
+            rest=C.text(mm[2],{cv:('place',cv,0,C.cur in o.wrapped)},{cv})
             if len(ps)>1 and re.search(r"(?<![\w.])"+re.escape(ps[1])+r"(?![\w])",rest): flags.append(f"{it['n']} uses {ps[1]}")
             if it['need'] in o.asked or canon(it['need']) in {canon(k) for k in o.asked}:
                 fs=next(v for k,v in o.asked.items() if canon(k)==canon(it['need']))
@@ -446,7 +495,7 @@ def convert(key,folder):
             ans.append(('\n'.join(it['c'])+'\n' if it['c'] else '')+f"pub {g} : goal.{g}\n"+''.join(u+'\n' for u in unf)+f"{g} {cv} ={rest}")
         else:
             # helper
-            env={n:'place' for n,ty in it['args'] if n and ty.startswith('tie.')}
+            env={n:('place',n,0,False) for n,ty in it['args'] if n and ty.startswith('tie.')}
             pts=[re.match(r'tie\.([\w-]+)',ty)[1] for n,ty in it['args'] if ty.startswith('tie.')]
             C.cur=canon(pts[0]) if pts else None
             sig2=C.text(sig,env,set())
@@ -460,7 +509,7 @@ def convert(key,folder):
                 if not mm: flags.append('helper form '+it['n']); out.append(c); continue
                 ps=mm[1].split(); e2={}
                 for q,(n,ty) in zip(ps,it['args']):
-                    if ty.startswith('tie.'): e2[q]='place'
+                    if ty.startswith('tie.'): e2[q]=('place',q,0,False)
                 out.append(it['n']+mm[1]+' ='+C.text(mm[2],e2,set()))
             ans.append(('\n'.join(it['c'])+'\n' if it['c'] else '')+f"{it['pre']}{it['n']} :{sig2}\n"+''.join(u+'\n' for u in unf)+'\n'.join(out).rstrip('\n'))
     modbase=f"Rattle.{crate}.proofs.{fnmod}"

@@ -97,7 +97,7 @@ kind-sum g h a = go (view g) (view h)
     go (is-strict p e) (is-weak q f) = rw (e, f) at (both p q)
     go (is-strict p e) (is-strict q f) = rw (e, f) at (both p q)
 
-same_kind : {r g : ℕ} {k : Kind} → kind_of g ≡ k → r ≡ g → kind_of r ≡ k
+pub same_kind : {r g : ℕ} {k : Kind} → kind_of g ≡ k → r ≡ g → kind_of r ≡ k
 same_kind i e = rw e i
 
 -- the kind compares whole numbers where the code compares codes: the halves decide both
@@ -143,7 +143,3 @@ kind-le g h p e =
 
 pub kind-inj : (g h : ℕ) → g ≤ none → h ≤ none → kind_of g ≡ kind_of h → g ≡ h
 kind-inj g h p q e = omega (arith, kind-le g h p e, kind-le h g q (sym e))
-
--- the two clauses of a contract: a result's code, and so its gap
-pub with-kind : {r g : ℕ} {k : Kind} → r ≡ g → kind_of g ≡ k → (r ≡ g) × (kind_of r ≡ k)
-with-kind e i = (e, same_kind i e)

@@ -182,7 +182,7 @@ pub fn walk(legs: &[u64], bounds: &[u16], count: u8, start: u8) -> Walked
 // One leg further, forwards or back.
 fn further(leg: u64, back: u8, stand: Stand) -> Walked
     requires { (back < 2) × (stand.gap < range) }
-    ensures says { FurtherSays leg back stand result }
+    ensures { FurtherSays leg back stand result }
 {
     if back == 1 {
         if way(leg) == EITHER && to(leg) == stand.at {

@@ -31,11 +31,11 @@ only_if true o = map (λ p e. p) o
 only_if false o = some (λ e. absurd (false≢true e))
 
 abbrev pub below : {P : ℕ → Type 0} (k : ℕ) → ((i : ℕ) → Option (P i)) → Option ((i : ℕ) → i < k → P i)
-below zero f = some (λ i l. absurd (omega arith))
-below (suc k) f = do
+below {P} zero f = some (λ i l. absurd (omega arith))
+below {P} (suc k) f = do
   p ← f 0
   q ← below k (λ i. f (suc i))
-  some (λ i. elim i [ zero ↦ λ l. p | suc j ↦ λ l. q j (omega arith) ])
+  some (λ i. elim i as (λ m. m < suc k → P m) [ zero ↦ λ l. p | suc j ↦ λ l. q j (omega arith) ])
 
 abbrev same : ℤ → ℤ → Bool
 same x y = eqb (plus x + minus y) (plus y + minus x)

@@ -18,5 +18,8 @@ clashes-upward s =
 -- what makes arguments in range alike in one sense makes the inputs the same in any that follows from it
 pub same-input-below : {P Q : ℕ → ℕ → Type 0} (i j : ℕ) (t u : Term) → ArgumentsBelow i t → ArgumentsBelow j u →
     ((a b : ℕ) → a < i → b < j → P a b → Q a b) → SameInput P t u → SameInput Q t u
-same-input-below i j t u (of-apply k) (of-apply l) f (one p) = one (f _ _ k l p)
-same-input-below i j t u (of-apply2 k k') (of-apply2 l l') f (two p q) = two (f _ _ k l p) (f _ _ k' l' q)
+same-input-below {P} {Q} i j t u a b f same = go same a b
+  where
+    go : {t u : Term} → SameInput P t u → ArgumentsBelow i t → ArgumentsBelow j u → SameInput Q t u
+    go (one p) (of-apply k) (of-apply l) = one (f _ _ k l p)
+    go (two p q) (of-apply2 k k') (of-apply2 l l') = two (f _ _ k l p) (f _ _ k' l' q)

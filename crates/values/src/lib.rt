@@ -22,7 +22,7 @@ pub fn write(sheet: &[u8], d: &[u32], room: &mut [u8]) -> usize
     requires d_len { (length d.now ≡ cells) × (record_length (sheet_of sheet.now) ≤ length room.old) }
     requires closed { Closed (points (sheet_of sheet.now)) (reach (points (sheet_of sheet.now))) (cell d.now) }
     ensures length { result ≡ record_length (sheet_of sheet.now) }
-    ensures record { Written (sheet_of sheet.now) (cell d.now) room.old room.new }
+    ensures written { Written (sheet_of sheet.now) (cell d.now) room.old room.new }
 {
     let terms = reading::count_terms(sheet);
     let n = terms + 1;

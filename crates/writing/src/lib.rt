@@ -24,7 +24,7 @@ pub fn head(room: &mut [u8], size: usize, verdict: u8, count: u64)
 pub fn holds(room: &mut [u8], d: u64, v: &[u64], t: usize) -> usize
     requires { (head_length + 8 * t ≤ length room.old) × (head_length + 8 * t < 65536) × (t < length v.now) × (d < 65536) }
     ensures length { result ≡ head_length + 8 * t }
-    ensures record { Recorded room.old room.new v.now d t }
+    ensures written { Recorded room.old room.new v.now d t }
 {
     let size = HEAD + 8 * t;
     head(room, size, 0, d);

@@ -21,66 +21,44 @@ use Rattle.argued.proofs.by_entry.Goals as goal
 abbrev After-entry_at : Type 0
 After-entry_at = lts.After-entry_at tie.the-claims reads.Pre reads.Post
 
-abbrev Start : Type 0
-Start = lts.Start tie.the-claims reads.Pre reads.Post
-
-abbrev After-together : Type 0
-After-together = lts.After-together tie.the-claims reads.Pre reads.Post
-
 abbrev After-mark : Type 0
 After-mark = lts.After-mark tie.the-claims reads.Pre reads.Post
-
-abbrev After-gather : Type 0
-After-gather = lts.After-gather tie.the-claims reads.Pre reads.Post
 
 abbrev After-both : Type 0
 After-both = lts.After-both tie.the-claims reads.Pre reads.Post
 
+abbrev Start : Type 0
+Start = lts.Start tie.the-claims reads.Pre reads.Post
+
 abbrev After-gather2 : Type 0
 After-gather2 = lts.After-gather2 tie.the-claims reads.Pre reads.Post
 
-abbrev start_of : After-entry_at → Start
-start_of c = c.before.before.before.before.before.before.before.before.before.before.before
-
-abbrev read : After-together → After-entry_at
-read c = c.before.before.before
-
 module _ (R : After-entry_at) where
-  left-few : R.entry_at-entry.result.a.0 < count_terms (sheet_of (start_of R).args.sheet.now)
-  left-few = left< (start_of R).requires.ready R.entry_at-entry.result R.entry_at-entry.ensures (start_of R).requires.e_bound.0
+  left-few : R.entry_at-entry.result.a.0 < count_terms (sheet_of R.args.sheet.now)
+  left-few = left< R.requires.ready R.entry_at-entry.result R.entry_at-entry.ensures R.requires.e_bound.0
 
-  right-few : R.entry_at-entry.result.b.0 < count_terms (sheet_of (start_of R).args.sheet.now)
-  right-few = right< (start_of R).requires.ready R.entry_at-entry.result R.entry_at-entry.ensures (start_of R).requires.e_bound.0
+  right-few : R.entry_at-entry.result.b.0 < count_terms (sheet_of R.args.sheet.now)
+  right-few = right< R.requires.ready R.entry_at-entry.result R.entry_at-entry.ensures R.requires.e_bound.0
 
 pub together-requires : goal.together-requires
 together-requires c =
-    let R = c.before.before.before in
-    let Y = (start_of R).requires.ready in
-    (Y.all-labels, omega (arith, few Y), omega (arith, left-few R, Y.formed.terms), omega (arith, right-few R, Y.formed.terms))
-
--- the path
-abbrev joined : After-mark → After-together
-joined c = c.before.before.before
-
-abbrev path-on : After-gather → After-mark
-path-on c = c.before.before.before.before.before
+    let Y = c.requires.ready in
+    (Y.all-labels, omega (arith, few Y), omega (arith, left-few c.before.before.before, Y.formed.terms), omega (arith, right-few c.before.before.before, Y.formed.terms))
 
 pub mark-requires : goal.mark-requires
 mark-requires c =
-    let T = c.before.before.before in
-    let R = read T in
-    let Y = (start_of R).requires.ready in
-    let e = R.count_terms-n.ensures.0 in record {
+    let Y = c.requires.ready in
+    let e = c.count_terms-n.ensures.0 in record {
       labels_len = (
         Y.all-labels,
         points-few Y e,
         omega (arith, few-ties Y.formed Y.drafted, e),
         omega (arith, few Y, Y.all-ties),
         omega (arith, few Y),
-        omega (arith, left-few R, e),
-        omega (arith, right-few R, e),
+        omega (arith, left-few c.before.before.before.before.before.before, e),
+        omega (arith, right-few c.before.before.before.before.before.before, e),
       );
-      labelled = (labelled Y R.entry_at-entry.result R.entry_at-entry.ensures (start_of R).requires.e_bound.0 e, eqb-true _ _ (sym T.together.ensures ∙ c.if-together.true));
+      labelled = (labelled Y c.entry_at-entry.result c.entry_at-entry.ensures c.requires.e_bound.0 e, eqb-true _ _ (sym c.together.ensures ∙ c.if-together.true));
     }
 
 -- the marks and the walks keep their lengths
@@ -90,72 +68,56 @@ marks M = M.mark.new.need
 marks-long : (M : After-mark) → length (marks M) ≡ stride
 marks-long M = omega (arith, M.mark.auto.need)
 
-count< : (M : After-mark) → (start_of (read (joined M))).args.count < length (marks M)
-count< M = omega (arith, few (start_of (read (joined M))).requires.ready, marks-long M)
+count< : (M : After-mark) → M.args.count < length (marks M)
+count< M = omega (arith, few M.requires.ready, marks-long M)
 
-marked-long : (M : After-mark) → length (set (marks M) (start_of (read (joined M))).args.count true) ≡ stride
-marked-long M = length-set (marks M) (start_of (read (joined M))).args.count true ∙ marks-long M
+marked-long : (M : After-mark) → length (set (marks M) M.args.count true) ≡ stride
+marked-long M = length-set (marks M) M.args.count true ∙ marks-long M
 
 pub bounds-need-count : goal.bounds-need-count
-bounds-need-count c = omega (arith, few (start_of (read (joined c.before.before))).requires.ready)
+bounds-need-count c = omega (arith, few c.requires.ready)
 
 pub gather-requires : goal.gather-requires
 gather-requires c =
-    let M = c.before.before.before.before.before in
-    let Y = (start_of (read (joined M))).requires.ready in
-    gather-asks Y Y.all-cells (omega (arith, few Y, marked-long M)) (omega arith)
+    let Y = c.requires.ready in
+    gather-asks Y Y.all-cells (omega (arith, few Y, marked-long c.before.before.before.before.before)) (omega arith)
 
 pub write_path-requires : goal.write_path-requires
 write_path-requires c =
-    let G = c.before.before.before.before.before.before.before.before in
-    let M = path-on G in
-    let R = read (joined M) in
-    let (Y, (x<, B)) = (start_of R).requires in (
-      writable Y G.gather.ensures.gathered (omega (arith, G.gather.auto.walks))
-          (omega (arith, few Y, G.gather.auto.need, marked-long M)),
-      path-marked Y R.entry_at-entry.result R.entry_at-entry.ensures x< B M.mark.ensures G.gather.ensures.gathered (count< M),
+    let (Y, (x<, B)) = c.requires in (
+      writable Y c.gather.ensures.gathered (omega (arith, c.gather.auto.walks))
+          (omega (arith, few Y, c.gather.auto.need, marked-long c.before.before.before.before.before.before.before.before.before.before.before.before.before)),
+      path-marked Y c.entry_at-entry.result c.entry_at-entry.ensures x< B c.mark.ensures c.gather.ensures.gathered (count< c.before.before.before.before.before.before.before.before.before.before.before.before.before),
     )
 
 pub returns-then-together : goal.returns-then-together
 returns-then-together c =
-    let W = c.before.before.before in
-    let G = W.before.before.before.before.before.before.before.before in
-    let M = path-on G in
-    let R = read (joined M) in
-    let (Y, (x<, B)) = (start_of R).requires in record {
-      closed = path-closes Y R.entry_at-entry.result R.entry_at-entry.ensures x< B M.mark.ensures G.gather.ensures.gathered (count< M) (none-marked stride) W.write_path.ensures;
-      kept = G.gather.ensures.kept;
+    let (Y, (x<, B)) = c.requires in record {
+      closed = path-closes Y c.entry_at-entry.result c.entry_at-entry.ensures x< B c.mark.ensures c.gather.ensures.gathered (count< c.before.before.before.before.before.before.before.before.before.before.before.before.before.before.before.before) (none-marked stride) c.write_path.ensures;
+      kept = c.gather.ensures.kept;
     }
-
--- the walks
-abbrev parted : After-both → After-together
-parted c = c.before.before.before.before.before
-
-abbrev found : After-gather2 → After-both
-found c = c.before.before.before.before.before.before.before.before
 
 pub both-requires : goal.both-requires
 both-requires c =
-    let R = read c.before.before.before.before.before in
-    let (Y, (x<, B)) = (start_of R).requires in
-    let e = R.count_terms-n.ensures.0 in record {
-      sound = both-asks Y R.entry_at-entry.result R.entry_at-entry.ensures x< e B;
-      n_le_stride = (points-few Y e, omega (arith, left-few R, e), omega (arith, right-few R, e), Y.all-cells, omega arith, Y.all-names);
+    let (Y, (x<, B)) = c.requires in
+    let e = c.count_terms-n.ensures.0 in record {
+      sound = both-asks Y c.entry_at-entry.result c.entry_at-entry.ensures x< e B;
+      n_le_stride = (points-few Y e, omega (arith, left-few c.before.before.before.before.before.before.before.before, e), omega (arith, right-few c.before.before.before.before.before.before.before.before, e), Y.all-cells, omega arith, Y.all-names);
       by_index = λ b h g. names-fit Y stride b (omega arith) h g;
     }
 
 module _ (F : After-both) where
   abbrev start : Start
-  start = start_of (read (parted F))
+  start = F.before.before.before.before.before.before.before.before.before.before.before.before.before.before.before.before.before.before.before
 
-  apart : cell start.args.labels.now start.args.count (read (parted F)).entry_at-entry.result.a.0
-      ≡ cell start.args.labels.now start.args.count (read (parted F)).entry_at-entry.result.b.0 → ⊥
-  apart = eqb-false _ _ (sym (parted F).together.ensures ∙ F.if-together.false)
+  apart : cell start.args.labels.now start.args.count F.entry_at-entry.result.a.0
+      ≡ cell start.args.labels.now start.args.count F.entry_at-entry.result.b.0 → ⊥
+  apart = eqb-false _ _ (sym F.together.ensures ∙ F.if-together.false)
 
   few-more : start.args.count < 128
   few-more =
       let Y = start.requires.0 in
-      omega (arith, few-more-ties Y.formed Y.drafted (left-few (read (parted F))) (right-few (read (parted F))) apart, Y.formed.terms)
+      omega (arith, few-more-ties Y.formed Y.drafted (left-few F.before.before.before.before.before.before.before.before) (right-few F.before.before.before.before.before.before.before.before) apart, Y.formed.terms)
 
   abbrev found-marks : List Bool
   found-marks = F.both.last.1.1.1.1.1.1.1.1.1.0
@@ -181,47 +143,38 @@ bounds-need-count-3 c = omega (arith, few-more c.before.before.before.before.bef
 
 pub gather-requires-2 : goal.gather-requires-2
 gather-requires-2 c =
-    let F = c.before.before.before.before.before.before.before.before in
-    let Y = (start F).requires.0 in
-    gather-asks Y (omega (arith, Y.all-cells, F.both.auto.best)) (omega (arith, few Y, all-marked-long F)) (omega arith)
+    let Y = (start c.before.before.before.before.before.before.before.before).requires.0 in
+    gather-asks Y (omega (arith, Y.all-cells, c.both.auto.best)) (omega (arith, few Y, all-marked-long c.before.before.before.before.before.before.before.before)) (omega arith)
 
 module _ (G : After-gather2) where
-  walks-as-long : length G.gather-2.new.walks ≡ length (found G).both.new.walks
+  walks-as-long : length G.gather-2.new.walks ≡ length G.both.new.walks
   walks-as-long = G.gather-2.auto.walks
 
   walks-full : walks_length ≤ length G.gather-2.last.1.1.1.1.1.1.1.1.1.1.1.1.0
-  walks-full = omega (arith, walks-as-long, (found G).both.auto.walks)
+  walks-full = omega (arith, walks-as-long, G.both.auto.walks)
 
 pub write_tie-requires : goal.write_tie-requires
 write_tie-requires c =
-    let G = c.before.before.before.before.before.before.before.before.before.before in
-    let F = found G in
-    let R = read (parted F) in
-    let (Y, (x<, B)) = (start_of R).requires in
-    let e = R.count_terms-n.ensures.0 in
+    let (Y, (x<, B)) = c.requires in
+    let e = c.count_terms-n.ensures.0 in
     let (h, h') =
-    tie-marked Y R.entry_at-entry.result R.entry_at-entry.ensures x< B e F.both.ensures.found G.gather-2.ensures.gathered (next< F) (walks-as-long G) in record {
+    tie-marked Y c.entry_at-entry.result c.entry_at-entry.ensures x< B e c.both.ensures.found c.gather-2.ensures.gathered (next< c.before.before.before.before.before.before.before.before.before.before.before.before.before.before.before.before.before.before) (walks-as-long c.before.before.before.before.before.before.before.before.before.before) in record {
       writable = (
-        writable Y G.gather-2.ensures.gathered (walks-full G) (omega (arith, few Y, G.gather-2.auto.need, all-marked-long F)),
-        few-more F,
+        writable Y c.gather-2.ensures.gathered (walks-full c.before.before.before.before.before.before.before.before.before.before) (omega (arith, few Y, c.gather-2.auto.need, all-marked-long c.before.before.before.before.before.before.before.before.before.before.before.before.before.before.before.before.before.before)),
+        few-more c.before.before.before.before.before.before.before.before.before.before.before.before.before.before.before.before.before.before,
         h,
         h',
       );
-      readable = tie-readable Y R.entry_at-entry.result R.entry_at-entry.ensures x< B e F.both.ensures.found G.gather-2.ensures.gathered (next< F) (walks-as-long G) (walks-full G);
+      readable = tie-readable Y c.entry_at-entry.result c.entry_at-entry.ensures x< B e c.both.ensures.found c.gather-2.ensures.gathered (next< c.before.before.before.before.before.before.before.before.before.before.before.before.before.before.before.before.before.before) (walks-as-long c.before.before.before.before.before.before.before.before.before.before) (walks-full c.before.before.before.before.before.before.before.before.before.before);
     }
 
 pub returns : goal.returns
 returns c =
-    let W = c.before.before.before in
-    let C = W.before.before.before.before in
-    let G = C.before.before.before.before.before.before in
-    let F = found G in
-    let R = read (parted F) in
-    let (Y, (x<, B)) = (start_of R).requires in
-    let e = R.count_terms-n.ensures.0 in
-    let n : R.count_terms-n.result + 1 ≡ points (sheet_of (start_of R).args.sheet.now) = omega arith in record {
-      closed = tie-closes Y R.entry_at-entry.result R.entry_at-entry.ensures x< B e F.both.ensures.found G.gather-2.ensures.gathered (next< F) (walks-as-long G)
-          C.wrapping_sub_u64-c.result (omega (arith, C.wrapping_sub_u64-c.type-inv)) (omega (arith, C.struct_known-3-1.given))
-          C.wrapping_sub_u64-c.ensures (apart F) (none-marked stride) W.write_tie.ensures;
-      kept = kept_on (rw n at F.both.ensures.kept) G.gather-2.ensures.kept;
+    let (Y, (x<, B)) = c.requires in
+    let e = c.count_terms-n.ensures.0 in
+    let n : c.count_terms-n.result + 1 ≡ points (sheet_of c.args.sheet.now) = omega arith in record {
+      closed = tie-closes Y c.entry_at-entry.result c.entry_at-entry.ensures x< B e c.both.ensures.found c.gather-2.ensures.gathered (next< c.before.before.before.before.before.before.before.before.before.before.before.before.before.before.before.before.before.before.before.before.before) (walks-as-long c.before.before.before.before.before.before.before.before.before.before.before.before.before)
+          c.wrapping_sub_u64-c.result (omega (arith, c.wrapping_sub_u64-c.type-inv)) (omega (arith, c.struct_known-3-1.given))
+          c.wrapping_sub_u64-c.ensures (apart c.before.before.before.before.before.before.before.before.before.before.before.before.before.before.before.before.before.before.before.before.before) (none-marked stride) c.write_tie.ensures;
+      kept = kept_on (rw n at c.both.ensures.kept) c.gather-2.ensures.kept;
     }

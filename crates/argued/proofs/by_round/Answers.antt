@@ -15,39 +15,23 @@ use Rattle.argued.proofs.by_round.Reads as reads
 use Rattle.argued.proofs.by_round.Tie as tie
 use Rattle.argued.proofs.by_round.Goals as goal
 
-abbrev After-count_terms : Type 0
-After-count_terms = lts.After-count_terms tie.the-claims reads.Pre reads.Post
-
-abbrev Start : Type 0
-Start = lts.Start tie.the-claims reads.Pre reads.Post
-
 abbrev After-round : Type 0
 After-round = lts.After-round tie.the-claims reads.Pre reads.Post
 
 abbrev After-gather : Type 0
 After-gather = lts.After-gather tie.the-claims reads.Pre reads.Post
 
-abbrev start_of : After-count_terms → Start
-start_of c = c.before.before.before.before.before.before.before.before.before.before
-
-abbrev counted : After-round → After-count_terms
-counted c = c.before.before.before.before
-
-abbrev found : After-gather → After-round
-found c = c.before.before.before.before.before.before.before.before
-
 pub round-requires : goal.round-requires
 round-requires c =
-    let N = c.before.before.before.before in
-    let (Y, l) = (start_of N).requires in
-    let e = N.count_terms-n.ensures.0 in record {
+    let (Y, l) = c.requires in
+    let e = c.count_terms-n.ensures.0 in record {
       sound = round-asks Y e l;
       n_le_stride = (points-few Y e, Y.all-cells, omega arith, omega (arith, Y.all-names));
       by_index = λ b h g. names-fit Y stride b (omega arith) (omega arith) g;
     }
 
 pub bounds-need-count : goal.bounds-need-count
-bounds-need-count c = omega (arith, few (start_of (counted c.before.before.before.before.before)).requires.0)
+bounds-need-count c = omega (arith, few c.requires.0)
 
 -- the marks and the walks keep their lengths
 abbrev marks : After-round → List Bool
@@ -56,56 +40,47 @@ marks F = F.round.new.need
 need-long : (F : After-round) → length (marks F) ≡ stride
 need-long F = omega (arith, F.round.auto.need)
 
-marked-long : (F : After-round) → length (set (marks F) (start_of (counted F)).args.count true) ≡ stride
-marked-long F = length-set (marks F) (start_of (counted F)).args.count true ∙ need-long F
+marked-long : (F : After-round) → length (set (marks F) F.args.count true) ≡ stride
+marked-long F = length-set (marks F) F.args.count true ∙ need-long F
 
-count< : (F : After-round) → (start_of (counted F)).args.count < length (marks F)
-count< F = omega (arith, few (start_of (counted F)).requires.0, need-long F)
+count< : (F : After-round) → F.args.count < length (marks F)
+count< F = omega (arith, few F.requires.0, need-long F)
 
 pub gather-requires : goal.gather-requires
 gather-requires c =
-    let F = c.before.before.before.before.before.before.before.before in
-    let Y = (start_of (counted F)).requires.0 in
-    gather-asks Y (omega (arith, Y.all-cells, F.round.auto.best)) (omega (arith, few Y, marked-long F)) (omega arith)
+    let Y = c.requires.0 in
+    gather-asks Y (omega (arith, Y.all-cells, c.round.auto.best)) (omega (arith, few Y, marked-long c.before.before.before.before.before.before.before.before)) (omega arith)
 
 walks-long : (F : After-round) → length F.round.new.walks ≡ walks_length
 walks-long F = omega (arith, F.round.auto.walks)
 
-walks-as-long : (G : After-gather) → length G.gather.new.walks ≡ length (found G).round.new.walks
+walks-as-long : (G : After-gather) → length G.gather.new.walks ≡ length G.round.new.walks
 walks-as-long G = G.gather.auto.walks
 
 walks-full : (G : After-gather) → walks_length ≤ length G.gather.new.walks
-walks-full G = omega (arith, walks-as-long G, walks-long (found G))
+walks-full G = omega (arith, walks-as-long G, walks-long G.before.before.before.before.before.before.before.before)
 
-need-full : (G : After-gather) → (start_of (counted (found G))).args.count ≤ length G.gather.new.need
-need-full G = omega (arith, few (start_of (counted (found G))).requires.0, G.gather.auto.need, marked-long (found G))
+need-full : (G : After-gather) → G.args.count ≤ length G.gather.new.need
+need-full G = omega (arith, few G.requires.0, G.gather.auto.need, marked-long G.before.before.before.before.before.before.before.before)
 
 pub bounds-froms-e : goal.bounds-froms-e
 bounds-froms-e c =
-    let start = start_of (counted (found c.before.before.before.before.before.before.before.before.before)) in
-    omega (arith, start.requires.1, start.requires.0.drafted.sound.all-froms)
+    omega (arith, c.requires.1, c.requires.0.drafted.sound.all-froms)
 
 pub write_round-requires : goal.write_round-requires
 write_round-requires c =
-    let G = c.before.before.before.before.before.before.before.before.before in
-    let F = found G in
-    let N = counted F in
-    let (Y, l) = (start_of N).requires in
-    let e = N.count_terms-n.ensures.0 in
-    let (walk, short) = round-readable Y e F.round.ensures.found G.gather.ensures.gathered l (count< F) (walks-as-long G) (walks-full G) in record {
-      writable = (writable Y G.gather.ensures.gathered (walks-full G) (need-full G), round-marked Y e F.round.ensures.found G.gather.ensures.gathered l (count< F) (walks-as-long G));
+    let (Y, l) = c.requires in
+    let e = c.count_terms-n.ensures.0 in
+    let (walk, short) = round-readable Y e c.round.ensures.found c.gather.ensures.gathered l (count< c.before.before.before.before.before.before.before.before.before.before.before.before.before.before.before.before.before) (walks-as-long c.before.before.before.before.before.before.before.before.before) (walks-full c.before.before.before.before.before.before.before.before.before) in record {
+      writable = (writable Y c.gather.ensures.gathered (walks-full c.before.before.before.before.before.before.before.before.before) (need-full c.before.before.before.before.before.before.before.before.before), round-marked Y e c.round.ensures.found c.gather.ensures.gathered l (count< c.before.before.before.before.before.before.before.before.before.before.before.before.before.before.before.before.before) (walks-as-long c.before.before.before.before.before.before.before.before.before));
       readable = (walk, short, omega (arith, Y.all-names), nameable (name_below Y.formed Y.drafted _ l));
     }
 
 pub returns : goal.returns
 returns c =
-    let W = c.before.before.before in
-    let G = W.before.before.before.before.before.before.before.before.before in
-    let F = found G in
-    let N = counted F in
-    let (Y, l) = (start_of N).requires in
-    let e = N.count_terms-n.ensures.0 in
-    let n : N.count_terms-n.result + 1 ≡ points (sheet_of (start_of N).args.sheet.now) = omega arith in record {
-      closed = round-closes Y e F.round.ensures.found G.gather.ensures.gathered l (count< F) (walks-as-long G) (none-marked stride) W.write_round.ensures;
-      kept = kept_on (rw n at F.round.ensures.kept) G.gather.ensures.kept;
+    let (Y, l) = c.requires in
+    let e = c.count_terms-n.ensures.0 in
+    let n : c.count_terms-n.result + 1 ≡ points (sheet_of c.args.sheet.now) = omega arith in record {
+      closed = round-closes Y e c.round.ensures.found c.gather.ensures.gathered l (count< c.before.before.before.before.before.before.before.before.before.before.before.before.before.before.before.before.before.before.before.before) (walks-as-long c.before.before.before.before.before.before.before.before.before.before.before.before) (none-marked stride) c.write_round.ensures;
+      kept = kept_on (rw n at c.round.ensures.kept) c.gather.ensures.kept;
     }

@@ -14,44 +14,22 @@ use Rattle.argued.proofs.write_round.Goals as goal
 abbrev After-rank : Type 0
 After-rank = lts.After-rank tie.the-claims reads.Pre reads.Post
 
-abbrev Start : Type 0
-Start = lts.Start tie.the-claims reads.Pre reads.Post
-
-abbrev After-ties : Type 0
-After-ties = lts.After-ties tie.the-claims reads.Pre reads.Post
-
-abbrev After-round : Type 0
-After-round = lts.After-round tie.the-claims reads.Pre reads.Post
-
-abbrev start_of : After-rank → Start
-start_of c = c.before.before.before.before.before.before.before
-
-abbrev ranked : After-ties → After-rank
-ranked c = c.before.before.before.before
-
-abbrev tied : After-round → After-ties
-tied c = c.before.before.before.before.before
-
-few-kept : (R : After-rank) → rank (marked (start_of R).args.need.now) (start_of R).args.count ≤ (start_of R).args.count
-few-kept R = rank-low (marked (start_of R).args.need.now) (start_of R).args.count
+few-kept : (R : After-rank) → rank (marked R.args.need.now) R.args.count ≤ R.args.count
+few-kept R = rank-low (marked R.args.need.now) R.args.count
 
 pub ties-at-requires : goal.ties-at-requires
-ties-at-requires c =
-    let R = c.before.before.before.before in record {
-      step_length_in_bounds = (omega arith, omega arith, omega arith, omega arith, search rules);
-      ranked = R.rank-kept.ensures.ranks;
-      by_index = (start_of R).requires.writable.0.readable;
-    }
+ties-at-requires c = record {
+  step_length_in_bounds = (omega arith, omega arith, omega arith, omega arith, search rules);
+  ranked = c.rank-kept.ensures.ranks;
+  by_index = c.requires.writable.0.readable;
+}
 
 pub round-end-requires : goal.round-end-requires
 round-end-requires c =
-    let T = c.before.before.before.before.before in
-    let R = ranked T in
-    let start = start_of R in
-    let (walk, few, e<, name) = start.requires.readable in
-    let far : start.args.count ≤ length R.rank-kept.last.1.1.0 = omega (arith, start.requires.writable.0, R.rank-kept.auto.ranks) in record {
+    let (walk, few, e<, name) = c.requires.readable in
+    let far : c.args.count ≤ length c.rank-kept.last.1.1.0 = omega (arith, c.requires.writable.0, c.rank-kept.auto.ranks) in record {
       step_length_in_bounds = (
-        omega (arith, start.requires.writable.0, T.ties-at.ensures.short, T.ties-at.auto.room, few-kept R),
+        omega (arith, c.requires.writable.0, c.ties-at.ensures.short, c.ties-at.auto.room, few-kept c.before.before.before.before.before.before.before.before.before),
         more-ties far walk,
         few,
       );
@@ -60,32 +38,24 @@ round-end-requires c =
 
 pub overflow_add-kept : goal.overflow_add-kept
 overflow_add-kept c =
-    let R = ranked (tied c.before.before.before.before) in
-    omega (arith, (start_of R).requires.writable.0, R.rank-kept.ensures.answer, few-kept R)
+    omega (arith, c.requires.writable.0, c.rank-kept.ensures.answer, few-kept c.before.before.before.before.before.before.before.before.before.before.before.before.before)
 
 pub head-requires : goal.head-requires
 head-requires c =
-    let E = c.before.before.before.before in
-    let T = tied E in
-    let R = ranked T in
     omega (
       arith,
-      (start_of R).requires.writable.0,
-      E.round-end.ensures.short,
-      E.round-end.auto.room,
-      T.ties-at.ensures.short,
-      T.ties-at.auto.room,
-      R.rank-kept.ensures.answer,
-      few-kept R,
+      c.requires.writable.0,
+      c.round-end.ensures.short,
+      c.round-end.auto.room,
+      c.ties-at.ensures.short,
+      c.ties-at.auto.room,
+      c.rank-kept.ensures.answer,
+      few-kept c.before.before.before.before.before.before.before.before.before.before.before.before.before,
     )
 
 pub returns : goal.returns
 returns c =
-    let E = c.before.before.before.before.before.before.before in
-    let T = tied E in
-    let R = ranked T in
-    let start = start_of R in
-    let (walk, few, e<, name) = start.requires.readable in
-    round-ends start.args.names.now start.args.ties.now start.args.walks.now R.rank-kept.ensures.ranks R.rank-kept.ensures.answer T.ties-at.ensures.steps
-    (omega (arith, start.requires.writable.0, E.round-end.ensures.short, T.ties-at.ensures.short, few-kept R))
-    start.args.a _ start.requires.writable.1 name walk E.round-end.ensures.step c.head.ensures
+    let (walk, few, e<, name) = c.requires.readable in
+    round-ends c.args.names.now c.args.ties.now c.args.walks.now c.rank-kept.ensures.ranks c.rank-kept.ensures.answer c.ties-at.ensures.steps
+    (omega (arith, c.requires.writable.0, c.round-end.ensures.short, c.ties-at.ensures.short, few-kept c.before.before.before.before.before.before.before.before.before.before.before.before.before.before.before.before))
+    c.args.a _ c.requires.writable.1 name walk c.round-end.ensures.step c.head.ensures

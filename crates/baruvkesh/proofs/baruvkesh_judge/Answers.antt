@@ -7,5 +7,4 @@ use Rattle.baruvkesh.proofs.baruvkesh_judge.Goals as goal
 
 pub returns : goal.returns
 returns c =
-    let numbered = c.before.before in
-    read_back (Answered _ _ _) 65536 _ (omega arith) (omega arith) numbered.judge-answer.ensures
+    read_back (Answered _ _ _) 65536 _ (omega arith) (omega arith) c.judge-answer.ensures

@@ -7,5 +7,4 @@ use Rattle.baruvkesh.proofs.baruvkesh_reason.Goals as goal
 
 pub returns : goal.returns
 returns c =
-    let numbered = c.before.before in
-    read_back (Reasoned _ _ _) 4294967296 _ (omega arith) (omega arith) numbered.reason-reply.ensures
+    read_back (Reasoned _ _ _) 4294967296 _ (omega arith) (omega arith) c.reason-reply.ensures

@@ -7,5 +7,4 @@ use Rattle.baruvkesh.proofs.baruvkesh_survey.Goals as goal
 
 pub returns : goal.returns
 returns c =
-    let numbered = c.before.before in
-    read_back (Recited _ _ _) 4294967296 _ (omega arith) (omega arith) numbered.check-told.ensures
+    read_back (Recited _ _ _) 4294967296 _ (omega arith) (omega arith) c.check-told.ensures

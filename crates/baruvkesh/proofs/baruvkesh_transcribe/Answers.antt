@@ -25,9 +25,8 @@ overflow_add-result c = omega (arith, low c.before.before.before.before.before)
 
 pub returns : goal.returns
 returns c =
-    let typed = c.before.before.before.before.before in
     record {
-      read = λ h. read_back (Transcribed _ _ _) 4294967296 _ (omega (arith, low typed)) (omega arith) typed.transcribe-typed.ensures;
+      read = λ h. read_back (Transcribed _ _ _) 4294967296 _ (omega (arith, low c.before.before.before.before.before)) (omega arith) c.transcribe-typed.ensures;
       answer-is = λ h. absurd (omega arith);
       room-is = λ h. absurd (omega arith);
     }

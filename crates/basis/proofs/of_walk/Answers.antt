@@ -12,9 +12,8 @@ loop-x-init c = (omega arith, adds_none c.none-ties.ensures)
 
 pub only-requires : goal.only-requires
 only-requires c =
-    let at-loop = c.before.before.before.before in
-    at-loop.requires.1 _
-    (record { at = at-loop.loop-x.x; within = omega arith; sort = omega (arith, c.if-name-ge-TIE.true); number = refl })
+    c.requires.1 _
+    (record { at = c.loop-x.x; within = omega arith; sort = omega (arith, c.if-name-ge-TIE.true); number = refl })
 
 pub loop-x-preserved : goal.loop-x-preserved
 loop-x-preserved c =

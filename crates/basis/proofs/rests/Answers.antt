@@ -36,31 +36,23 @@ between_terms-requires c =
     let pre = c.requires in
     (pre.0, entry-within pre.0.well-formed pre.1.stands c.in-3.is)
 
--- where neither kind 1 nor kind 3 is met
-abbrev start_of : At-match-rest → Start
-start_of c = c.before.before.before.before
-
 module _ (c : At-match-rest) where
-  not-functions : (start_of c).args.s.kind ≢ 1
+  not-functions : c.args.s.kind ≢ 1
   not-functions = c.in_default.in_default-own.rest.0.1
 
-  not_entry : (start_of c).args.s.kind ≢ 3
+  not_entry : c.args.s.kind ≢ 3
   not_entry = c.in_default.in_default-own.rest.1
 
-  few : ((start_of c).args.s.first ≤ 129) × ((start_of c).args.s.second ≤ 129)
-  few = walks-few (start_of c).requires.0.well-formed (start_of c).requires.1.stands not-functions not_entry
+  few : (c.args.s.first ≤ 129) × (c.args.s.second ≤ 129)
+  few = walks-few c.requires.0.well-formed c.requires.1.stands not-functions not_entry
 
 pub of_walk-first-requires : goal.of_walk-first-requires
 of_walk-first-requires c =
-    let rest = c.before.before.before.before in
-    let start = start_of rest in
-    (omega (arith, few rest, there-long start), λ t A. named-few start.requires.0.well-formed start.requires.1.stands (inl A))
+    (omega (arith, few c.before.before.before.before, there-long c.before.before.before.before.before.before.before.before), λ t A. named-few c.requires.0.well-formed c.requires.1.stands (inl A))
 
 pub of_walk-second-requires : goal.of_walk-second-requires
 of_walk-second-requires c =
-    let rest = c.before.before.before.before.before.before in
-    let start = start_of rest in
-    (omega (arith, few rest, back_long start), λ t A. named-few start.requires.0.well-formed start.requires.1.stands (inr A))
+    (omega (arith, few c.before.before.before.before.before.before, back_long c.before.before.before.before.before.before.before.before.before.before), λ t A. named-few c.requires.0.well-formed c.requires.1.stands (inr A))
 
 pub returns-in-1 : goal.returns-in-1
 returns-in-1 c =
@@ -74,8 +66,6 @@ returns-in-3 c =
 
 pub returns-in_default : goal.returns-in_default
 returns-in_default c =
-    let first = c.before.before.before.before in
-    let rest = first.before.before.before.before in
     λ listed steps m legs n S.
-    walks-rest (start_of rest).requires.0.well-formed S (not-functions rest) (not_entry rest) first.of_walk-first.ensures
+    walks-rest c.requires.0.well-formed S (not-functions c.before.before.before.before.before.before.before.before) (not_entry c.before.before.before.before.before.before.before.before) c.of_walk-first.ensures
     c.of_walk-second.ensures c.either.ensures

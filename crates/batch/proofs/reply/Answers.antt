@@ -20,21 +20,14 @@ write-requires c =
 
 pub shape_of-bytes : goal.shape_of-bytes
 shape_of-bytes c =
-    let wrote = c.before.before.before in
-    let begun = wrote.before.before.before.before.before.before.before.before.before.before in
-    let long = ap length begun.requires in
-    wrote.write.auto.out ∙ simp length-set (omega arith)
+    let long = ap length c.requires in
+    c.write.auto.out ∙ simp length-set (omega arith)
 
 pub returns : goal.returns
 returns c =
-    let wrote = c.before.before.before in
-    let placed = wrote.before in
-    let numbered = placed.before.before in
-    let judged = numbered.before.before.before in
-    let begun = judged.before.before.before.before in
-    let long = ap length begun.requires in
-    let a = rw (begun.requires, ← numbered.number.ensures, ← placed.place.ensures) at judged.judge-answer.ensures in
+    let long = ap length c.requires in
+    let a = rw (c.requires, ← c.number.ensures, ← c.place.ensures) at c.judge-answer.ensures in
     record {
-      answered = replied-whole (Answered _ _) 2 room_needed begun.args.bytes.now judged.judge-answer.new.room _ _ _ _ (omega arith) (omega arith)
-          (shape_of-bytes c.before ∙ long) (omega arith) a wrote.write.ensures.0 wrote.write.ensures.1;
+      answered = replied-whole (Answered _ _) 2 room_needed c.args.bytes.now c.judge-answer.new.room _ _ _ _ (omega arith) (omega arith)
+          (shape_of-bytes c.before ∙ long) (omega arith) a c.write.ensures.0 c.write.ensures.1;
     }

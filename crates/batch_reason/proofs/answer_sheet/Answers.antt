@@ -14,4 +14,4 @@ pub slice_bounds-bytes-end-2 : goal.slice_bounds-bytes-end-2
 slice_bounds-bytes-end-2 c = simp length-set (omega arith)
 
 pub slice_bounds-write_all-end-2 : goal.slice_bounds-write_all-end-2
-slice_bounds-write_all-end-2 c = sym (length-take-le 6 (set c.reply.new.bytes 5 _) (slice_bounds-bytes-end-2 c.before.before))
+slice_bounds-write_all-end-2 c = sym (length-take-le 6 (set c.reply.new.bytes 5 _) (slice_bounds-bytes-end-2 c.before))

@@ -29,20 +29,13 @@ write-requires c = (
 
 pub shape_of-bytes : goal.shape_of-bytes
 shape_of-bytes c =
-    let wrote = c.before.before.before in
-    let begun = wrote.before.before.before.before.before.before.before.before.before.before in
-    wrote.write.auto.out ∙ simp length-set (omega (arith, long begun))
+    c.write.auto.out ∙ simp length-set (omega (arith, long c.before.before.before.before.before.before.before.before.before.before.before.before.before))
 
 pub returns : goal.returns
 returns c =
-    let wrote = c.before.before.before in
-    let placed = wrote.before in
-    let numbered = placed.before.before in
-    let told = numbered.before.before.before in
-    let begun = told.before.before.before.before in
-    let all = long begun in
-    let t = rw (lent-full 5 begun.args.size reason_room 0xAA begun.args.bytes.now begun.requires.0 begun.requires.1, ← numbered.number.ensures, ← placed.place.ensures) at told.reason-told.ensures in
+    let all = long c.before.before.before.before.before.before.before.before.before.before.before.before.before in
+    let t = rw (lent-full 5 c.args.size reason_room 0xAA c.args.bytes.now c.requires.0 c.requires.1, ← c.number.ensures, ← c.place.ensures) at c.reason-told.ensures in
     record {
-      reasoned = replied (Reasoned _ _) 4 begun.args.size begun.args.bytes.now told.reason-told.new.room _ _ _ _ (omega arith) (omega arith)
-          (omega (arith, shape_of-bytes c.before)) (omega arith) t wrote.write.ensures.0 wrote.write.ensures.1;
+      reasoned = replied (Reasoned _ _) 4 c.args.size c.args.bytes.now c.reason-told.new.room _ _ _ _ (omega arith) (omega arith)
+          (omega (arith, shape_of-bytes c.before)) (omega arith) t c.write.ensures.0 c.write.ensures.1;
     }

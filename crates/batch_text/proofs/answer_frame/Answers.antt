@@ -9,4 +9,4 @@ pub slice_bounds-answer_text-end : goal.slice_bounds-answer_text-end
 slice_bounds-answer_text-end c = sym (length-take-le c.read-k.result _ (omega arith))
 
 pub answer_text-requires : goal.answer_text-requires
-answer_text-requires c = (omega (arith, slice_bounds-answer_text-end c.before), omega arith)
+answer_text-requires c = (omega (arith, slice_bounds-answer_text-end c), omega arith)

@@ -15,28 +15,21 @@ bounds-bytes-0 c = omega (arith, ap length c.requires.2)
 -- a place fits its four bytes
 pub write-requires : goal.write-requires
 write-requires c =
-    let begun = c.before.before.before.before.before.before.before.before.before.before in (
-      simp length-set (omega (arith, ap length begun.requires.2)),
-      omega (arith, place-within c.transcribe-typed.ensures most_text begun.requires.0 (omega arith)),
+    (
+      simp length-set (omega (arith, ap length c.requires.2)),
+      omega (arith, place-within c.transcribe-typed.ensures most_text c.requires.0 (omega arith)),
     )
 
 pub shape_of-bytes : goal.shape_of-bytes
 shape_of-bytes c =
-    let wrote = c.before.before.before in
-    let begun = wrote.before.before.before.before.before.before.before.before.before.before in
-    let long = ap length begun.requires.2 in
-    wrote.write.auto.out ∙ simp length-set (omega arith)
+    let long = ap length c.requires.2 in
+    c.write.auto.out ∙ simp length-set (omega arith)
 
 pub returns : goal.returns
 returns c =
-    let wrote = c.before.before.before in
-    let placed = wrote.before in
-    let numbered = placed.before.before in
-    let typed = numbered.before.before.before in
-    let begun = typed.before.before.before.before in
-    let long = ap length begun.requires.2 in
-    let t = rw (lent-full 5 begun.args.size most_room 0xAA begun.args.bytes.now begun.requires.1 begun.requires.2, ← numbered.number.ensures, ← placed.place.ensures) at typed.transcribe-typed.ensures in
+    let long = ap length c.requires.2 in
+    let t = rw (lent-full 5 c.args.size most_room 0xAA c.args.bytes.now c.requires.1 c.requires.2, ← c.number.ensures, ← c.place.ensures) at c.transcribe-typed.ensures in
     record {
-      transcribed = replied (Transcribed _ _) 4 begun.args.size begun.args.bytes.now typed.transcribe-typed.new.room _ _ _ _ (omega arith) (omega arith)
-          (omega (arith, shape_of-bytes c.before)) (omega arith) t wrote.write.ensures.0 wrote.write.ensures.1;
+      transcribed = replied (Transcribed _ _) 4 c.args.size c.args.bytes.now c.transcribe-typed.new.room _ _ _ _ (omega arith) (omega arith)
+          (omega (arith, shape_of-bytes c.before)) (omega arith) t c.write.ensures.0 c.write.ensures.1;
     }

@@ -37,8 +37,7 @@ overflow_mul-v c = omega (arith, room c.before)
 
 pub overflow_add-v : goal.overflow_add-v
 overflow_add-v c =
-    let a = c.before.before.before.before in
-    omega (arith, room c.before.before.before, bytes a (a.args.at + a.loop-k.k))
+    omega (arith, room c.before.before.before, bytes c.before.before.before.before (c.args.at + c.loop-k.k))
 
 pub loop-k-preserved : goal.loop-k-preserved
 loop-k-preserved c = (omega arith, rw (add-one, big-more) (omega arith))

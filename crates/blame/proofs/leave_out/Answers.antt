@@ -14,36 +14,32 @@ use Rattle.blame.proofs.leave_out.Goals as goal
 
 pub loop-r-init : goal.loop-r-init
 loop-r-init c =
-    let begun = c.before.before.before.before.before in
-    (omega arith, refl, omega arith, kept-all _ _, start {r = c.count_entries-r.result} begun.requires.clashes.0 begun.requires.clashes.1 (λ x l. omega arith))
+    (omega arith, refl, omega arith, kept-all _ _, start {r = c.count_entries-r.result} c.requires.clashes.0 c.requires.clashes.1 (λ x l. omega arith))
 
 pub clashes-requires : goal.clashes-requires
-clashes-requires c =
-    let begun = c.before.before.before.before.before.before.before.before.before in record {
-      sized = begun.requires.sized;
-      sheet_in_bounds = (simp length-set (omega arith), omega arith);
-    }
+clashes-requires c = record {
+  sized = c.requires.sized;
+  sheet_in_bounds = (simp length-set (omega arith), omega arith);
+}
 
 pub loop-r-preserved-then-not-clashes : goal.loop-r-preserved-then-not-clashes
 loop-r-preserved-then-not-clashes c =
-    let asked = c.before.before.before.before in
-    let loop = asked.loop-r in (
+    let loop = c.loop-r in (
       omega arith,
       simp length-set (omega arith),
       omega arith,
-      kept_on loop.invariant.3 asked.clashes.ensures.kept,
-      number-keeps _ loop.marks (omega arith) (omega arith) (omega arith) loop.invariant.4 (clashes-upward _) (asked.clashes.ensures.decides.no (not-true _ c.if-not-clashes.true-raw)),
+      kept_on loop.invariant.3 c.clashes.ensures.kept,
+      number-keeps _ loop.marks (omega arith) (omega arith) (omega arith) loop.invariant.4 (clashes-upward _) (c.clashes.ensures.decides.no (not-true _ c.if-not-clashes.true-raw)),
     )
 
 pub loop-r-preserved : goal.loop-r-preserved
 loop-r-preserved c =
-    let asked = c.before.before.before.before in
-    let loop = asked.loop-r in (
+    let loop = c.loop-r in (
       omega arith,
       simp length-set (omega arith),
       omega arith,
-      kept_on loop.invariant.3 asked.clashes.ensures.kept,
-      number-leaves _ loop.marks (omega arith) (omega arith) (omega arith) loop.invariant.4 (asked.clashes.ensures.decides.yes (not-false _ c.if-not-clashes.false-raw)),
+      kept_on loop.invariant.3 c.clashes.ensures.kept,
+      number-leaves _ loop.marks (omega arith) (omega arith) (omega arith) loop.invariant.4 (c.clashes.ensures.decides.yes (not-false _ c.if-not-clashes.false-raw)),
     )
 
 pub returns : goal.returns

@@ -20,27 +20,22 @@ loop-e-init c = (
 
 pub put_marked-requires : goal.put_marked-requires
 put_marked-requires c =
-    let loop = c.loop-e in
-    let start = c.before.before.before.before.before.before.before.before in record {
-      sized = start.requires.sized;
+    let loop = c.loop-e in record {
+      sized = c.requires.sized;
       e_bound = (omega arith, omega arith);
       d_len = (omega arith, loop.invariant.4.table);
     }
 
 pub returns-then-not-put_marked : goal.returns-then-not-put_marked
 returns-then-not-put_marked c =
-    let called = c.before.before.before.before in
-    let loop = called.loop-e in
-    let start = called.before.before.before.before.before.before.before.before in
+    let loop = c.loop-e in
     refused (not-true _ c.if-not-put_marked.true-raw)
-    (entries-more _ _ _ start.requires.sized.1 (omega arith) loop.invariant.3 loop.invariant.4 called.put_marked.ensures)
+    (entries-more _ _ _ c.requires.sized.1 (omega arith) loop.invariant.3 loop.invariant.4 c.put_marked.ensures)
 
 pub loop-e-preserved : goal.loop-e-preserved
 loop-e-preserved c =
-    let called = c.before.before.before.before in
-    let loop = called.loop-e in
-    let start = called.before.before.before.before.before.before.before.before in
-    let S = entries-more _ _ _ start.requires.sized.1 (omega arith) loop.invariant.3 loop.invariant.4 called.put_marked.ensures in
+    let loop = c.loop-e in
+    let S = entries-more _ _ _ c.requires.sized.1 (omega arith) loop.invariant.3 loop.invariant.4 c.put_marked.ensures in
     (omega arith, loop.invariant.1, omega arith, S.kept, S.went (not-false _ c.if-not-put_marked.false-raw))
 
 pub returns : goal.returns

@@ -13,22 +13,17 @@ returns-then-not-set-e c = unmarked (not-true _ c.if-not-set-e.true-raw) c.requi
 
 pub entry_at-requires : goal.entry_at-requires
 entry_at-requires c =
-    let start = c.before.before.before.before.before.before.before.before.before in
-    (start.requires.sized.0, start.requires.e_bound.0)
+    (c.requires.sized.0, c.requires.e_bound.0)
 
 pub put_entry-requires : goal.put_entry-requires
 put_entry-requires c =
     let terms = c.count_terms.ensures in
-    let start = c.before.before.before.before.before.before.before.before.before.before in
-    let below = entry-below start.requires.sized.1 start.requires.e_bound.0 c.entry_at.ensures in record {
+    let below = entry-below c.requires.sized.1 c.requires.e_bound.0 c.entry_at.ensures in record {
       d_len = omega (arith, below);
-      table = rw terms.0 start.requires.d_len.1;
+      table = rw terms.0 c.requires.d_len.1;
     }
 
 pub returns : goal.returns
 returns c =
-    let called = c.before.before.before in
-    let entry = called.before in
-    let counted = entry.before in
-    marked (not-false _ counted.if-not-set-e.false-raw) (ap (λ (z : ℕ). z + 1) counted.count_terms.ensures.0) entry.entry_at.ensures
-    called.put_entry.ensures
+    marked (not-false _ c.if-not-set-e.false-raw) (ap (λ (z : ℕ). z + 1) c.count_terms.ensures.0) c.entry_at.ensures
+    c.put_entry.ensures

@@ -24,29 +24,24 @@ term_at-requires c = (c.requires.sized.0, omega arith)
 pub put_term-requires : goal.put_term-requires
 put_term-requires c =
     let loop = c.loop-i in
-    let start = c.before.before.before.before.before.before.before.before in
-    let wf = start.requires.sized.1 in record {
+    let wf = c.requires.sized.1 in record {
       d_len = (omega arith, omega arith, omega arith, rw c.term_at.ensures (wf.arguments _ (omega arith)));
       table = rw loop.invariant.1 loop.invariant.4.table;
     }
 
 pub returns-then-not-put_term : goal.returns-then-not-put_term
 returns-then-not-put_term c =
-    let called = c.before.before.before.before in
-    let loop = called.loop-i in
-    let start = called.before.before.before.before.before.before.before.before in
+    let loop = c.loop-i in
     refused (not-true _ c.if-not-put_term.true-raw)
-    (terms-more _ _ start.requires.sized.1 (omega arith) loop.invariant.1 called.term_at.ensures
-    loop.invariant.3 loop.invariant.4 called.put_term.ensures)
+    (terms-more _ _ c.requires.sized.1 (omega arith) loop.invariant.1 c.term_at.ensures
+    loop.invariant.3 loop.invariant.4 c.put_term.ensures)
 
 pub loop-i-preserved : goal.loop-i-preserved
 loop-i-preserved c =
-    let called = c.before.before.before.before in
-    let loop = called.loop-i in
-    let start = called.before.before.before.before.before.before.before.before in
+    let loop = c.loop-i in
     let S =
-    terms-more _ _ start.requires.sized.1 (omega arith) loop.invariant.1 called.term_at.ensures
-    loop.invariant.3 loop.invariant.4 called.put_term.ensures
+    terms-more _ _ c.requires.sized.1 (omega arith) loop.invariant.1 c.term_at.ensures
+    loop.invariant.3 loop.invariant.4 c.put_term.ensures
     in
     (omega arith, loop.invariant.1, omega arith, S.kept, S.went (not-false _ c.if-not-put_term.false-raw))
 

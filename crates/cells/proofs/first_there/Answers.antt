@@ -11,8 +11,7 @@ loop-k-init c = (omega arith, λ j h. absurd (omega arith))
 
 pub loop-k-preserved : goal.loop-k-preserved
 loop-k-preserved c =
-    let turn = c.before.before.before.before in
-    (omega arith, below_more _ _ turn.loop-k.invariant.1 (omega (arith, leb-true)))
+    (omega arith, below_more _ _ c.loop-k.invariant.1 (omega (arith, leb-true)))
 
 pub returns-else-row-k-ge-NONE : goal.returns-else-row-k-ge-NONE
 returns-else-row-k-ge-NONE c = c.loop-k.invariant

@@ -13,11 +13,10 @@ loop-k-init c = (omega arith, omega arith, λ j h l. absurd (omega arith))
 
 pub loop-k-preserved : goal.loop-k-preserved
 loop-k-preserved c =
-    let turn = c.before.before.before.before in
-    let last : (j : ℕ) → j < turn.loop-k.k → turn.loop-k.k - 1 ≤ j → j ≡ turn.loop-k.k - 1 = λ j l h. omega arith in (
+    let last : (j : ℕ) → j < c.loop-k.k → c.loop-k.k - 1 ≤ j → j ≡ c.loop-k.k - 1 = λ j l h. omega arith in (
       omega arith,
       omega arith,
-      λ j h l. ⊎_elim (λ p. turn.loop-k.invariant.2 j p l) (λ p. rw (last j p h) (omega (arith, leb-true))) (order turn.loop-k.k j),
+      λ j h l. ⊎_elim (λ p. c.loop-k.invariant.2 j p l) (λ p. rw (last j p h) (omega (arith, leb-true))) (order c.loop-k.k j),
     )
 
 pub returns-else-row-k-ge-NONE : goal.returns-else-row-k-ge-NONE

@@ -35,27 +35,23 @@ loop-j-init c = (refl, omega arith, omega arith, refl, none_yet _ _ _ _ _)
 
 pub sum-requires : goal.sum-requires
 sum-requires c =
-    let start = c.before.before.before.before.before.before.before.before.before in
-    start.requires.by_index _ (omega arith) (omega arith)
+    c.requires.by_index _ (omega arith) (omega arith)
 
 pub loop-j-preserved : goal.loop-j-preserved
 loop-j-preserved c =
-    let turn = c.before.before.before.before.before.before in (
+    (
       refl,
       omega arith,
       omega arith,
       simp length-set (omega arith),
-      one_more _ _ _ _ _ _ _ _ _ turn.loop-j.invariant.4 (omega arith) (omega arith) c.sum.ensures.code c.tighter.ensures.code,
+      one_more _ _ _ _ _ _ _ _ _ c.loop-j.invariant.4 (omega arith) (omega arith) c.sum.ensures.code c.tighter.ensures.code,
     )
 
 pub returns-after-loop-j : goal.returns-after-loop-j
 returns-after-loop-j c =
-    let turn = c.before.before in
-    let start = turn.before.before.before.before.before in
-    let end : turn.loop-j.j ≡ start.args.to = omega arith in
-    rw end at turn.loop-j.invariant.4
+    let end : c.loop-j.j ≡ c.args.to = omega arith in
+    rw end at c.loop-j.invariant.4
 
 pub returns-else-via-d : goal.returns-else-via-d
 returns-else-via-d c =
-    let start = c.before.before.before.before.before in
-    skipped _ _ start.args.i start.args.via.0 _ _ (start.requires.j_bound (omega arith))
+    skipped _ _ c.args.i c.args.via.0 _ _ (c.requires.j_bound (omega arith))

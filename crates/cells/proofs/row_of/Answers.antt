@@ -20,12 +20,12 @@ loop-j-init c = (refl, omega arith, refl, λ k h. absurd (omega arith))
 pub loop-j-preserved : goal.loop-j-preserved
 loop-j-preserved c =
     let loop = c.loop-j in
-    let start = c.before.before.before.before in (
+    (
       refl,
       omega arith,
       simp length-set (omega arith),
-      one_more start.args.d.now loop.row start.args.b loop.j (omega arith) loop.invariant.3,
+      one_more c.args.d.now loop.row c.args.b loop.j (omega arith) loop.invariant.3,
     )
 
 pub returns : goal.returns
-returns c = c.loop-j.invariant.3 j (omega arith)
+returns c = λ j h. c.loop-j.invariant.3 j (omega arith)

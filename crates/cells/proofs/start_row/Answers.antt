@@ -9,18 +9,13 @@ use native.Mathlib.Omega.{arith}
 use borrow.Author.Count.{below_more}
 use Rattle.kind.specs.Code.{base, none}
 use Rattle.cells.specs.Cells.{stride, cell, RowStarted}
+use Rattle.cells.proofs.start_row.Invariants.{Filled}
 use Rattle.cells.proofs.start_row.Lts as lts
 use Rattle.cells.proofs.start_row.Reads as reads
 use Rattle.cells.proofs.start_row.Goals as goal
 
 abbrev After-loop : Type 0
 After-loop = lts.After-loop reads.Pre reads.Post goal.the-invariant-loop-j goal.the-decreases-loop-j
-
--- new is old with no gap in the first n cells of row i
-record Filled (old new : List ℕ) (i n : ℕ) : Type 0 where
-  filled : (j : ℕ) → j < n → cell new i j ≡ none
-  before : (k : ℕ) → k < i * stride → get_or new k 0 ≡ get_or old k 0
-  after : (k : ℕ) → i * stride + n ≤ k → get_or new k 0 ≡ get_or old k 0
 
 module _ (old d : List ℕ) (i j : ℕ) (l : i * stride + j < length d) where
   one_more : (v : ℕ) → v ≡ none → Filled old d i j → Filled old (set d (i * stride + j) v) i (j + 1)
@@ -56,5 +51,4 @@ shape_of-d c = simp length-set (omega arith)
 
 pub returns : goal.returns
 returns c =
-    let turn = c.before.before in
-    with-zero _ _ _ _ _ (omega arith) (omega arith) (omega arith) (rw (at-end c.before) at turn.loop-j.invariant.3)
+    with-zero _ _ _ _ _ (omega arith) (omega arith) (omega arith) (rw (at-end c) at c.loop-j.invariant.3)

@@ -8,6 +8,5 @@ use Rattle.circles.proofs.loosen.Goals as goal
 
 pub loop-i-preserved : goal.loop-i-preserved
 loop-i-preserved c =
-    let walked = c.before.before in
-    let kept = walked.walk-x.ensures.worked ∙ walked.loop-i.invariant.0 in
+    let kept = c.walk-x.ensures.worked ∙ c.loop-i.invariant.0 in
     (⊎_elim (λ w. rw w.6 (w.5.ensures ∙ kept)) (λ w. rw w.1 kept) c.if-x-lt-PLACES.branch, omega arith)

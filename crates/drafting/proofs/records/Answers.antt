@@ -8,14 +8,12 @@ use Rattle.drafting.proofs.records.Goals as goal
 
 pub loop-i-preserved : goal.loop-i-preserved
 loop-i-preserved c =
-    let key = c.before.before.before.before in
-    let loop = key.before.before.before.before in
-    let args = loop.args in
+    let args = c.args in
     let write = c.write in (
       omega arith,
-      write.auto.out ∙ loop.loop-i.invariant.1,
-      one_more args.m.now args.from args.room.now args.at loop.loop-i.i (omega arith) loop.loop-i.invariant.2
-          (wrote (λ k. (c.slice_known-in-loop-i-1.given k).fits) write.auto.out (omega arith) (write.ensures.0 ∙ key.record.ensures.0) write.ensures.1),
+      write.auto.out ∙ c.loop-i.invariant.1,
+      one_more args.m.now args.from args.room.now args.at c.loop-i.i (omega arith) c.loop-i.invariant.2
+          (wrote (λ k. (c.slice_known-in-loop-i-1.given k).fits) write.auto.out (omega arith) (write.ensures.0 ∙ c.record.ensures.0) write.ensures.1),
     )
 
 pub returns : goal.returns

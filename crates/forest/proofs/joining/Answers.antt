@@ -42,16 +42,14 @@ module _ (c : Then1) where
 
   not_first : 1 ≤ c.loop-u.u
   not_first =
-      let start = c.before.before.before.before in
-      above (Same start) _ start.requires.i_value.1 (same _ (omega arith) (omega arith))
+      above (Same c.before.before.before.before) _ c.requires.i_value.1 (same _ (omega arith) (omega arith))
 
 pub loop-u-preserved : goal.loop-u-preserved
 loop-u-preserved c = (omega (arith, not_first c.before), λ k h l. same c.before k (omega (arith, not_first c.before)) l)
 
 pub returns : goal.returns
 returns c =
-    let start = c.before.before.before.before.before in
     let loop = c.loop-u in
-    let apart : Same start loop.u → ⊥ = two-labels c.together.ensures c.loop-u-test.false in
-    let earlier : loop.u < start.args.t = below (Same start) _ _ (omega arith) start.requires.i_value.0 apart in
+    let apart : Same c.before.before.before.before.before loop.u → ⊥ = two-labels c.together.ensures c.loop-u-test.false in
+    let earlier : loop.u < c.args.t = below (Same c.before.before.before.before.before) _ _ (omega arith) c.requires.i_value.0 apart in
     record { earlier = earlier; apart = apart; together = loop.invariant.1 _ (omega arith) (omega (arith, earlier)) }

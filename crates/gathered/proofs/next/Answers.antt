@@ -6,15 +6,10 @@ use Rattle.gathered.proofs.next.Goals as goal
 
 pub returns-then-t-lt-MOST : goal.returns-then-t-lt-MOST
 returns-then-t-lt-MOST c =
-    let p = c.before.before.before in
-    let o = p.before.before in
-    let f = o.before.before.before in
-    let a = f.before.before in
-    rw p.put.ensures
-    (found _ _ a.at-before.ensures f.without.ensures f.first-t.ensures _ _ (search rules) (omega arith) o.only.ensures
-    p.either.ensures)
+    rw c.put.ensures
+    (found _ _ c.at-before.ensures c.without.ensures c.first-t.ensures _ _ (search rules) (omega arith) c.only.ensures
+    c.either.ensures)
 
 pub returns-else-t-lt-MOST : goal.returns-else-t-lt-MOST
 returns-else-t-lt-MOST c =
-    let f = c.before.before in
-    not_found _ _ f.at-before.ensures f.without.ensures f.first-t.ensures (omega arith)
+    not_found _ _ c.at-before.ensures c.without.ensures c.first-t.ensures (omega arith)

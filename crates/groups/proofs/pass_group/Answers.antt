@@ -10,56 +10,44 @@ use Rattle.groups.proofs.pass_group.Goals as goal
 
 pub first_from-q-requires : goal.first_from-q-requires
 first_from-q-requires c =
-    let start = c.before.before.before.before in
-    (omega arith, start.requires.place_in_bounds.1)
+    (omega arith, c.requires.place_in_bounds.1)
 
 pub loop-q-init : goal.loop-q-init
 loop-q-init c =
-    let start = c.before.before.before.before.before in
     let F = c.first_from-q.ensures in
-    (omega arith, F.within, refl, same start.requires.d_len.1 (none-paired F _))
+    (omega arith, F.within, refl, same c.requires.d_len.1 (none-paired F _))
 
 pub overflow_sub-keys : goal.overflow_sub-keys
 overflow_sub-keys c =
-    let turn = c.before.before.before.before in
-    turn.first_from-q.ensures.from turn.loop-q.q turn.loop-q.invariant.0 (omega arith)
+    c.first_from-q.ensures.from c.loop-q.q c.loop-q.invariant.0 (omega arith)
 
 pub overflow_cast-keys : goal.overflow_cast-keys
 overflow_cast-keys c =
-    let turn = c.before.before.before.before in
-    let start = turn.before.before.before.before.before in
-    omega (arith, start.requires.place_in_bounds.2 turn.loop-q.q (omega arith))
+    omega (arith, c.requires.place_in_bounds.2 c.loop-q.q (omega arith))
 
 pub pass_pair-requires : goal.pass_pair-requires
 pass_pair-requires c =
-    let turn = c.before.before.before.before in
-    let start = turn.before.before.before.before.before in
-    let least = turn.first_from-q.ensures.from turn.loop-q.q turn.loop-q.invariant.0 (omega arith) in record {
-      sized = (start.requires.sized.0, start.requires.sized.1, start.requires.sized.2, omega (arith, start.requires.place_in_bounds.2 turn.loop-q.q (omega arith)));
-      d_len = (omega arith, sofar-table _ turn.loop-q.invariant.3);
+    let least = c.first_from-q.ensures.from c.loop-q.q c.loop-q.invariant.0 (omega arith) in record {
+      sized = (c.requires.sized.0, c.requires.sized.1, c.requires.sized.2, omega (arith, c.requires.place_in_bounds.2 c.loop-q.q (omega arith)));
+      d_len = (omega arith, sofar-table _ c.loop-q.invariant.3);
     }
 
 pub returns-in-Clash : goal.returns-in-Clash
 returns-in-Clash c =
-    let called = c.before.before.before.before.before in
-    let turn = called.before.before.before.before in
-    clash-after _ turn.loop-q.invariant.3 (rw c.in-Clash.is at called.pass_pair.ensures)
+    clash-after _ c.loop-q.invariant.3 (rw c.in-Clash.is at c.pass_pair.ensures)
 
 pub loop-q-preserved : goal.loop-q-preserved
 loop-q-preserved c =
-    let called = c.before.before.before.before in
-    let turn = called.before.before.before.before in (
+    (
       omega arith,
       omega arith,
       omega arith,
-      ⊎_elim (λ w. rw w.2 (more-new _ turn.loop-q.invariant.3 (rw w.1.given.1 at called.pass_pair.ensures)))
-          (λ w. rw w.2 (more-still _ one-paired turn.loop-q.invariant.3 (rw w.1.given.1 at called.pass_pair.ensures)))
+      ⊎_elim (λ w. rw w.2 (more-new _ c.loop-q.invariant.3 (rw w.1.given.1 at c.pass_pair.ensures)))
+          (λ w. rw w.2 (more-still _ one-paired c.loop-q.invariant.3 (rw w.1.given.1 at c.pass_pair.ensures)))
           c.match-pass_pair.branch,
     )
 
 pub returns : goal.returns
 returns c =
-    let turn = c.before.before.before in
-    let start = turn.before.before.before.before.before in
-    let end : turn.loop-q.q ≡ start.args.place = omega arith in
-    rw c.answered.ensures (ended _ (λ e G. G) (rw end at turn.loop-q.invariant.3))
+    let end : c.loop-q.q ≡ c.args.place = omega arith in
+    rw c.answered.ensures (ended _ (λ e G. G) (rw end at c.loop-q.invariant.3))

@@ -9,35 +9,27 @@ use Rattle.groups.proofs.pass_term.Goals as goal
 
 pub insert-place-requires : goal.insert-place-requires
 insert-place-requires c =
-    let start = c.before.before.before.before.before.before.before.before.before in
-    (omega (arith, start.requires.sized.1.terms), start.requires.keys_len.1)
+    (omega (arith, c.requires.sized.1.terms), c.requires.keys_len.1)
 
 pub returns-then-key-eq0 : goal.returns-then-key-eq0
 returns-then-key-eq0 c =
-    let inserted = c.before.before.before.before in
-    let K = inserted.key_at-key.ensures.0 in record {
+    let K = c.key_at-key.ensures.0 in record {
       passing = still (none_passed K c.if-key-eq0.true);
-      put = record { key = _; place = _; keyed = K; put = inserted.insert-place.ensures };
+      put = record { key = _; place = _; keyed = K; put = c.insert-place.ensures };
     }
 
 pub pass_group-requires : goal.pass_group-requires
 pass_group-requires c =
-    let inserted = c.before.before.before.before.before.before in
-    let start = inserted.before.before.before.before.before.before.before.before.before in
-    let I = inserted.insert-place.ensures in record {
-      sized = start.requires.sized;
-      place_in_bounds = (omega (arith, I.within, start.requires.sized.1.terms), ascending-fewer (omega (arith, I.within)) (ascending-more I start.requires.keys_len.1), λ q l. omega (arith, I.lower q l));
-      d_len = start.requires.d_len;
+    let I = c.insert-place.ensures in record {
+      sized = c.requires.sized;
+      place_in_bounds = (omega (arith, I.within, c.requires.sized.1.terms), ascending-fewer (omega (arith, I.within)) (ascending-more I c.requires.keys_len.1), λ q l. omega (arith, I.lower q l));
+      d_len = c.requires.d_len;
     }
 
 pub returns : goal.returns
 returns c =
-    let grouped = c.before.before.before in
-    let inserted = grouped.before.before.before.before.before.before in
-    let keyed = inserted.before.before.before.before in
-    let start = keyed.before.before.before.before.before in
-    let K = keyed.key_at-key.ensures.0 in
-    let I = inserted.insert-place.ensures in record {
-      passing = passing-map _ (group-passed K I start.requires.sized.1 start.requires.d_len.1.closed start.requires.sized.2) grouped.pass_group.ensures;
-      put = record { key = _; place = _; keyed = K; put = I };
+    let K = c.key_at-key.ensures.0 in
+    let I = c.insert-place.ensures in record {
+      passing = passing-map _ (group-passed K I c.requires.sized.1 c.requires.d_len.1.closed c.requires.sized.2) c.pass_group.ensures;
+      put = record { key = _; place = _; c.before.before.before.before.before.before.before.before.before.before.before.before.before = K; put = I };
     }

@@ -18,72 +18,51 @@ use Rattle.grown.proofs.tie_all.Reads as reads
 use Rattle.grown.proofs.tie_all.Tie as tie
 use Rattle.grown.proofs.tie_all.Goals as goal
 
-abbrev After-slice_known8 : Type 0
-After-slice_known8 = lts.After-slice_known8 tie.the-claims reads.Pre reads.Post goal.the-invariant-loop-i goal.the-decreases-loop-i
-
-abbrev After-both : Type 0
-After-both = lts.After-both tie.the-claims reads.Pre reads.Post goal.the-invariant-loop-i goal.the-decreases-loop-i
+abbrev At-loop : Type 0
+At-loop = lts.At-loop tie.the-claims reads.Pre reads.Post goal.the-invariant-loop-i goal.the-decreases-loop-i
 
 abbrev After-partner : Type 0
 After-partner = lts.After-partner tie.the-claims reads.Pre reads.Post goal.the-invariant-loop-i goal.the-decreases-loop-i
 
-abbrev At-loop : Type 0
-At-loop = lts.At-loop tie.the-claims reads.Pre reads.Post goal.the-invariant-loop-i goal.the-decreases-loop-i
+abbrev After-both : Type 0
+After-both = lts.After-both tie.the-claims reads.Pre reads.Post goal.the-invariant-loop-i goal.the-decreases-loop-i
 
-abbrev Start : Type 0
-Start = lts.Start tie.the-claims reads.Pre reads.Post goal.the-invariant-loop-i goal.the-decreases-loop-i
-
--- the places that a turn is known by, from its end back to the function's start
-abbrev both_of : After-slice_known8 → After-both
-both_of c = c.before.before.before.before.before.before.before.before.before.before.before.before.before
-
-abbrev partner-of : After-both → After-partner
-partner-of c = c.before.before.before.before
-
-abbrev turn-of : After-partner → At-loop
-turn-of c = c.before.before.before
-
-abbrev begun-of : After-slice_known8 → At-loop
-begun-of c = turn-of (partner-of (both_of c))
-
-abbrev start_of : At-loop → Start
-start_of c = c.before.before.before.before.before.before.before.before.before
+abbrev After-slice_known8 : Type 0
+After-slice_known8 = lts.After-slice_known8 tie.the-claims reads.Pre reads.Post goal.the-invariant-loop-i goal.the-decreases-loop-i
 
 abbrev sheet-of : At-loop → Sheet
-sheet-of c = sheet_of (start_of c).args.sheet.now
+sheet-of c = sheet_of c.args.sheet.now
 
 -- and what is known there
 terms-of : (c : At-loop) → c.count_terms-t.result ≡ count_terms (sheet-of c)
 terms-of c = c.count_terms-t.ensures.0
 
-pair_of : (c : After-partner) → Pair (sheet-of (turn-of c)) (cell (turn-of c).loop-i.d) c.partner-j.result (turn-of c).loop-i.i
-pair_of c = pair (omega (arith, terms-of (turn-of c), c.loop-i-test.true)) (turn-of c).loop-i.invariant.4 c.partner-j.ensures
+pair_of : (c : After-partner) → Pair (sheet-of c.before.before.before) (cell c.loop-i.d) c.partner-j.result c.loop-i.i
+pair_of c = pair (omega (arith, terms-of c.before.before.before, c.loop-i-test.true)) c.loop-i.invariant.4 c.partner-j.ensures
 
-room_of : (c : After-partner) → (turn-of c).loop-i.listed + 2 ≤ most
-room_of c = let pre = (start_of (turn-of c)).requires in room pre.sized.1.terms pre.froms_len.3 (turn-of c).loop-i.invariant.1 (pair_of c)
+room_of : (c : After-partner) → c.loop-i.listed + 2 ≤ most
+room_of c = let pre = c.requires in room pre.sized.1.terms pre.froms_len.3 c.loop-i.invariant.1 (pair_of c)
 
 listing-of : (c : After-both)
-    → let turn = turn-of (partner-of c) in
-    let new = c.both.new in
-    Listing (sheet-of turn) (start_of turn).args.m turn.loop-i.froms turn.loop-i.tos turn.loop-i.codes turn.loop-i.d turn.loop-i.listed
-    (partner-of c).partner-j.result turn.loop-i.i new.froms new.tos new.codes
+    → let new = c.both.new in
+    Listing (sheet-of c.before.before.before.before.before.before.before) c.args.m c.loop-i.froms c.loop-i.tos c.loop-i.codes c.loop-i.d c.loop-i.listed
+    c.partner-j.result c.loop-i.i new.froms new.tos new.codes
 listing-of c =
     record {
-      growing = (turn-of (partner-of c)).loop-i.invariant.1;
-      pair = pair_of (partner-of c);
+      growing = c.loop-i.invariant.1;
+      pair = pair_of c.before.before.before.before;
       both = c.both.ensures;
-      fits = room_of (partner-of c);
+      fits = room_of c.before.before.before.before;
       froms-length = c.both.auto.froms;
       tos-length = c.both.auto.tos;
       codes-length = c.both.auto.codes;
     }
 
 rested-of : (c : After-slice_known8)
-    → let turn = begun-of c in
-    let new = (both_of c).both.new in
-    Rested (points (sheet-of turn)) (turn.loop-i.listed + 2) new.froms new.tos new.codes turn.loop-i.listed turn.loop-i.d
+    → let new = c.both.new in
+    Rested (points (sheet-of c.before.before.before.before.before.before.before.before.before.before.before.before.before.before.before.before.before.before.before.before)) (c.loop-i.listed + 2) new.froms new.tos new.codes c.loop-i.listed c.loop-i.d
     c.put-put.new.d c.put-put.result
-rested-of c = rw (terms-of (begun-of c)) at c.put-put.ensures
+rested-of c = rw (terms-of c.before.before.before.before.before.before.before.before.before.before.before.before.before.before.before.before.before.before.before.before) at c.put-put.ensures
 
 pub first-i-requires : goal.first-i-requires
 first-i-requires c =
@@ -100,72 +79,63 @@ loop-i-init c =
 
 pub partner-j-requires : goal.partner-j-requires
 partner-j-requires c =
-    let turn = c.before.before.before in
-    let pre = (start_of turn).requires in
-    let inv = turn.loop-i.invariant in record {
-      sized = (pre.sized.0, pre.sized.1, omega (arith, terms-of turn));
+    let pre = c.requires in
+    let inv = c.loop-i.invariant in record {
+      sized = (pre.sized.0, pre.sized.1, omega (arith, terms-of c.before.before.before));
       d_len = (inv.0, inv.1.exact.table.closed);
     }
 
 pub overflow_cast-j : goal.overflow_cast-j
-overflow_cast-j c = let p = c.before.before.before.before in omega (arith, (pair_of p).left<, (start_of (turn-of p)).requires.sized.1.terms)
+overflow_cast-j c = omega (arith, (pair_of c.before.before.before.before).left<, c.requires.sized.1.terms)
 
 pub overflow_cast-i : goal.overflow_cast-i
-overflow_cast-i c = let p = c.before.before.before.before in omega (arith, (pair_of p).right<, (start_of (turn-of p)).requires.sized.1.terms)
+overflow_cast-i c = omega (arith, (pair_of c.before.before.before.before).right<, c.requires.sized.1.terms)
 
 pub both-requires : goal.both-requires
 both-requires c =
-    let p = c.before.before.before.before in
-    let l = room_of p in
-    let G = (turn-of p).loop-i.invariant.1 in
+    let l = room_of c.before.before.before.before in
+    let G = c.loop-i.invariant.1 in
     (omega (arith, G.froms-length), omega (arith, G.tos-length), omega (arith, G.codes-length))
 
 pub overflow_add-t : goal.overflow_add-t
 overflow_add-t c =
-    let turn = turn-of (partner-of c.before.before.before.before.before.before.before.before) in
-    omega (arith, turn.count_terms-t.ensures.1)
+    omega (arith, c.count_terms-t.ensures.1)
 
 pub overflow_add-listed : goal.overflow_add-listed
-overflow_add-listed c = omega (arith, room_of (partner-of c.before.before.before.before.before.before.before.before.before.before.before))
+overflow_add-listed c = omega (arith, room_of c.before.before.before.before.before.before.before.before.before.before.before.before.before.before.before)
 
 pub put-put-requires : goal.put-put-requires
 put-put-requires c =
-    let both = c.before.before.before.before.before.before.before.before.before.before.before in
-    let turn = turn-of (partner-of both) in
-    let L = listing-of both in record {
-      d_len = (turn.loop-i.invariant.0, omega (arith, terms-of turn, (start_of turn).requires.sized.1.terms), omega arith);
-      sound = rw (terms-of turn) (sound L);
-      exact = rw (terms-of turn) (rests L);
+    let L = listing-of c.before.before.before.before.before.before.before.before.before.before.before in record {
+      d_len = (c.loop-i.invariant.0, omega (arith, terms-of c.before.before.before.before.before.before.before.before.before.before.before.before.before.before.before.before.before.before, c.requires.sized.1.terms), omega arith);
+      sound = rw (terms-of c.before.before.before.before.before.before.before.before.before.before.before.before.before.before.before.before.before.before) (sound L);
+      exact = rw (terms-of c.before.before.before.before.before.before.before.before.before.before.before.before.before.before.before.before.before.before) (rests L);
     }
 
 pub overflow_add-listed-in-loop-i : goal.overflow_add-listed-in-loop-i
-overflow_add-listed-in-loop-i c = omega (arith, room_of (partner-of (both_of c.before)))
+overflow_add-listed-in-loop-i c = omega (arith, room_of c.before.before.before.before.before.before.before.before.before.before.before.before.before.before.before.before.before.before)
 
 pub shape_of-d-then-put-listed : goal.shape_of-d-then-put-listed
 shape_of-d-then-put-listed c =
-    let turn = begun-of c.before.before in
-    omega (arith, c.put-put.auto.d, turn.loop-i.invariant.0, (start_of turn).requires.sized.2)
+    omega (arith, c.put-put.auto.d, c.loop-i.invariant.0, c.requires.sized.2)
 
 pub shape_of-froms-then-put-listed : goal.shape_of-froms-then-put-listed
 shape_of-froms-then-put-listed c =
-    let turn = begun-of c.before.before in
-    omega (arith, (both_of c.before.before).both.auto.froms, turn.loop-i.invariant.1.froms-length, (start_of turn).requires.froms_len.0)
+    omega (arith, c.both.auto.froms, c.loop-i.invariant.1.froms-length, c.requires.froms_len.0)
 
 pub shape_of-tos-then-put-listed : goal.shape_of-tos-then-put-listed
 shape_of-tos-then-put-listed c =
-    let turn = begun-of c.before.before in
-    omega (arith, (both_of c.before.before).both.auto.tos, turn.loop-i.invariant.1.tos-length, (start_of turn).requires.froms_len.1)
+    omega (arith, c.both.auto.tos, c.loop-i.invariant.1.tos-length, c.requires.froms_len.1)
 
 pub shape_of-codes-then-put-listed : goal.shape_of-codes-then-put-listed
 shape_of-codes-then-put-listed c =
-    let turn = begun-of c.before.before in
-    omega (arith, (both_of c.before.before).both.auto.codes, turn.loop-i.invariant.1.codes-length, (start_of turn).requires.froms_len.2)
+    omega (arith, c.both.auto.codes, c.loop-i.invariant.1.codes-length, c.requires.froms_len.2)
 
 pub returns-then-put-listed : goal.returns-then-put-listed
 returns-then-put-listed c =
-    let L = listing-of (both_of c.before.before) in
+    let L = listing-of c.before.before.before.before.before.before.before.before.before.before.before.before.before.before.before in
     let R = rested-of c.before.before in
-    let inv = (begun-of c.before.before).loop-i.invariant in record {
+    let inv = c.loop-i.invariant in record {
       grew = shut L R c.if-put-listed.true;
       front = front-still L inv.2;
       kept = kept_on inv.3 R.kept;
@@ -173,23 +143,20 @@ returns-then-put-listed c =
 
 pub first-i-requires-in-loop-i : goal.first-i-requires-in-loop-i
 first-i-requires-in-loop-i c =
-    let end = c.before.before.before in
-    let turn = begun-of end in
-    let pre = (start_of turn).requires in record {
+    let pre = c.requires in record {
       sized = (pre.sized.0, pre.sized.1);
-      d_len = (end.put-put.auto.d ∙ turn.loop-i.invariant.0, (rested-of end).exact.table.closed);
+      d_len = (c.put-put.auto.d ∙ c.loop-i.invariant.0, (rested-of c.before.before.before).exact.table.closed);
     }
 
 pub loop-i-smaller : goal.loop-i-smaller
-loop-i-smaller c = omega (arith, room_of (partner-of (both_of c.before.before.before.before)))
+loop-i-smaller c = omega (arith, room_of c.before.before.before.before.before.before.before.before.before.before.before.before.before.before.before.before.before.before.before.before.before)
 
 pub loop-i-preserved : goal.loop-i-preserved
 loop-i-preserved c =
-    let end = c.before.before.before.before in
-    let L = listing-of (both_of end) in
-    let R = rested-of end in
-    let inv = (begun-of end).loop-i.invariant in (
-      end.put-put.auto.d ∙ inv.0,
+    let L = listing-of c.before.before.before.before.before.before.before.before.before.before.before.before.before.before.before.before.before in
+    let R = rested-of c.before.before.before.before in
+    let inv = c.loop-i.invariant in (
+      c.put-put.auto.d ∙ inv.0,
       grown L R c.if-put-listed.false,
       front-still L inv.2,
       kept_on inv.3 R.kept,
@@ -197,22 +164,21 @@ loop-i-preserved c =
     )
 
 pub shape_of-d : goal.shape_of-d
-shape_of-d c = omega (arith, c.loop-i.invariant.0, (start_of c.before.before).requires.sized.2)
+shape_of-d c = omega (arith, c.loop-i.invariant.0, c.requires.sized.2)
 
 pub shape_of-froms : goal.shape_of-froms
-shape_of-froms c = omega (arith, c.loop-i.invariant.1.froms-length, (start_of c.before.before).requires.froms_len.0)
+shape_of-froms c = omega (arith, c.loop-i.invariant.1.froms-length, c.requires.froms_len.0)
 
 pub shape_of-tos : goal.shape_of-tos
-shape_of-tos c = omega (arith, c.loop-i.invariant.1.tos-length, (start_of c.before.before).requires.froms_len.1)
+shape_of-tos c = omega (arith, c.loop-i.invariant.1.tos-length, c.requires.froms_len.1)
 
 pub shape_of-codes : goal.shape_of-codes
-shape_of-codes c = omega (arith, c.loop-i.invariant.1.codes-length, (start_of c.before.before).requires.froms_len.2)
+shape_of-codes c = omega (arith, c.loop-i.invariant.1.codes-length, c.requires.froms_len.2)
 
 pub returns : goal.returns
 returns c =
-    let turn = c.before.before in
-    let inv = turn.loop-i.invariant in record {
-      grew = ended inv.1 (inv.4.none (omega (arith, terms-of turn, inv.4.at_most, c.loop-i-test.false)));
+    let inv = c.loop-i.invariant in record {
+      grew = ended inv.1 (inv.4.none (omega (arith, terms-of c.before.before, inv.4.at_most, c.loop-i-test.false)));
       front = inv.2;
       kept = inv.3;
     }

@@ -14,10 +14,8 @@ returns-then-not-search c = record {
 
 pub check-requires : goal.check-requires
 check-requires c =
-    let taken = c.before.before.before in
-    let start = taken.before.before.before.before.before.before.before.before.before.before.before in
-    let W = start.requires.sized.1 in record {
-      sized = start.requires.sized;
-      sheet_in_bounds = (start.requires.sheet_in_bounds, omega (arith, W.terms));
-      le_d = (omega arith, omega arith, λ i l. omega (arith, taken.take.ensures.range i (omega (arith, W.terms))));
+    let W = c.requires.sized.1 in record {
+      sized = c.requires.sized;
+      sheet_in_bounds = (c.requires.sheet_in_bounds, omega (arith, W.terms));
+      le_d = (omega arith, omega arith, λ i l. omega (arith, c.take.ensures.range i (omega (arith, W.terms))));
     }

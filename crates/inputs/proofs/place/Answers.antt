@@ -8,8 +8,7 @@ use Rattle.inputs.proofs.place.Goals as goal
 
 pub returns : goal.returns
 returns c =
-    let put = c.before.before.before.before.before.before.before.before in
-    let args = put.args in record {
+    let args = c.args in record {
       answer = c.level.ensures.answer;
-      worked = c.level.ensures.worked ∙ length-set args.m.now (inputs_at + args.k) put.input_of-input.result;
+      worked = c.level.ensures.worked ∙ length-set args.m.now (inputs_at + args.k) c.input_of-input.result;
     }

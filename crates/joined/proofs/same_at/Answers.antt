@@ -6,14 +6,11 @@ use Rattle.joined.proofs.same_at.Goals as goal
 
 pub same_input-requires : goal.same_input-requires
 same_input-requires c =
-    let first = c.before.before in
-    let counted = first.before in
-    let start = counted.before.before.before in
-    let wf = start.requires.sized.1 in record {
-      d_len = (start.requires.d_len.0, omega (arith, wf.terms), rw counted.count_terms-n.ensures.0 start.requires.d_len.1);
+    let wf = c.requires.sized.1 in record {
+      d_len = (c.requires.d_len.0, omega (arith, wf.terms), rw c.count_terms-n.ensures.0 c.requires.d_len.1);
       arguments_below = (
-        rw first.record_of.ensures (arguments-wider (omega arith) (wf.arguments start.args.i.0 (omega arith))),
-        rw c.record_of-2.ensures (arguments-wider (omega arith) (wf.arguments start.args.j.0 (omega arith))),
+        rw c.record_of.ensures (arguments-wider (omega arith) (wf.arguments c.args.i.0 (omega arith))),
+        rw c.record_of-2.ensures (arguments-wider (omega arith) (wf.arguments c.args.j.0 (omega arith))),
       );
     }
 

@@ -11,35 +11,25 @@ pub returns-then-kind-u : goal.returns-then-kind-u
 returns-then-kind-u c = refuted (λ J. true≢false (sym c.if-kind-u.true ∙ not-other _ _ (says J).alike))
 
 pub tied_at-requires : goal.tied_at-requires
-tied_at-requires c =
-    let alike = c.before.before.before in
-    let start = alike.before.before.before.before.before in record {
-      d_len = start.requires.d_len;
-      a_lt_n = firsts (one_symbol _ _ alike.if-kind-u.false) start.requires.arguments_below;
-    }
+tied_at-requires c = record {
+  d_len = c.requires.d_len;
+  a_lt_n = firsts (one_symbol _ _ c.if-kind-u.false) c.requires.arguments_below;
+}
 
 pub returns-then-not-tied_at : goal.returns-then-not-tied_at
 returns-then-not-tied_at c = refuted (λ J. c.tied_at.ensures.no (not-true _ c.if-not-tied_at.true-raw) (says J).first)
 
 pub tied_at-requires-else-kind-eq3 : goal.tied_at-requires-else-kind-eq3
-tied_at-requires-else-kind-eq3 c =
-    let second = c.before.before.before in
-    let alike = second.before.before.before.before.before in
-    let start = alike.before.before.before.before.before in record {
-      d_len = start.requires.d_len;
-      a_lt_n = seconds (one_symbol _ _ alike.if-kind-u.false) second.if-kind-eq3.false start.requires.arguments_below;
-    }
+tied_at-requires-else-kind-eq3 c = record {
+  d_len = c.requires.d_len;
+  a_lt_n = seconds (one_symbol _ _ c.if-kind-u.false) c.if-kind-eq3.false c.requires.arguments_below;
+}
 
 pub returns-then-kind-eq3 : goal.returns-then-kind-eq3
 returns-then-kind-eq3 c =
-    let first = c.before.before in
-    let alike = first.before.before.before.before in
-    one_told (one_symbol _ _ alike.if-kind-u.false) (first.tied_at.ensures.yes (not-false _ first.if-not-tied_at.false-raw)) c.if-kind-eq3.true
+    one_told (one_symbol _ _ c.if-kind-u.false) (c.tied_at.ensures.yes (not-false _ c.if-not-tied_at.false-raw)) c.if-kind-eq3.true
 
 pub returns-else-kind-eq3 : goal.returns-else-kind-eq3
 returns-else-kind-eq3 c =
-    let second = c.before.before.before.before in
-    let first = second.before in
-    let alike = first.before.before.before.before in
-    two-told (one_symbol _ _ alike.if-kind-u.false) (first.tied_at.ensures.yes (not-false _ first.if-not-tied_at.false-raw)) second.if-kind-eq3.false
+    two-told (one_symbol _ _ c.if-kind-u.false) (c.tied_at.ensures.yes (not-false _ c.if-not-tied_at.false-raw)) c.if-kind-eq3.false
     c.tied_at-else-kind-eq3.ensures

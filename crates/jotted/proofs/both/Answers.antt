@@ -12,12 +12,10 @@ one-requires-2 c = (omega arith, omega arith, omega arith, c.back.ensures.there,
 
 pub returns : goal.returns
 returns c =
-    let second = c.before.before.before.before.before.before.before in
-    let first = second.before.before.before.before.before.before.before.before.before.before.before in
     record {
       froms-between = _;
       tos-between = _;
       codes-between = _;
-      there = rw (weak-to _ _ first.to.ensures) at first.one.ensures;
-      back = rw (weak-back _ _ second.back.ensures) at second.one-2.ensures;
+      there = rw (weak-to _ _ c.to.ensures) at c.one.ensures;
+      back = rw (weak-back _ _ c.back.ensures) at c.one-2.ensures;
     }

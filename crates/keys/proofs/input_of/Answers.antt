@@ -8,21 +8,18 @@ use Rattle.keys.proofs.input_of.Goals as goal
 
 pub applied-requires : goal.applied-requires
 applied-requires c =
-    let known = c.before.before in
-    let pre = known.requires in
-    (pre.0, omega arith, argument (rw known.in-Apply.is at pre.1))
+    let pre = c.requires in
+    (pre.0, omega arith, argument (rw c.in-Apply.is at pre.1))
 
 pub applied-requires-in-Apply2 : goal.applied-requires-in-Apply2
 applied-requires-in-Apply2 c =
-    let known = c.before.before in
-    let pre = known.requires in
-    (pre.0, omega arith, (arguments (rw known.in-Apply2.is at pre.1)).0)
+    let pre = c.requires in
+    (pre.0, omega arith, (arguments (rw c.in-Apply2.is at pre.1)).0)
 
 pub height_of-requires : goal.height_of-requires
 height_of-requires c =
-    let known = c.before.before.before in
-    let pre = known.requires in
-    (pre.0, omega (arith, arguments (rw known.in-Apply2.is at pre.1)))
+    let pre = c.requires in
+    (pre.0, omega (arith, arguments (rw c.in-Apply2.is at pre.1)))
 
 pub returns-in-Apply : goal.returns-in-Apply
 returns-in-Apply c =

@@ -15,74 +15,55 @@ use Rattle.laid.proofs.arguments.Goals as goal
 abbrev After-fields_at2 : Type 0
 After-fields_at2 = lts.After-fields_at2 tie.the-claims reads.Pre reads.Post
 
-abbrev Start : Type 0
-Start = lts.Start tie.the-claims reads.Pre reads.Post
-
 pub fields_at-f-requires : goal.fields_at-f-requires
 fields_at-f-requires c = omega (arith, terms-stated c.args.sheet.now)
 
 pub fields_at-g-requires : goal.fields_at-g-requires
 fields_at-g-requires c = omega (arith, terms-stated c.args.sheet.now)
 
--- the two records
-abbrev start_of : After-fields_at2 → Start
-start_of c = c.before.before.before.before.before
-
 abbrev Read : After-fields_at2 → Type 0
 Read c =
-    let args = (start_of c).args in
+    let args = c.args in
     Records (sheet_of args.sheet.now) args.i args.j c.fields_at-f.result c.fields_at-g.result
 
 records : (c : After-fields_at2) → Read c
 records c =
-    let pre = (start_of c).requires.i_bound in
+    let pre = c.requires.i_bound in
     record {
       left_is = term-decoded _ _ pre.0 ∙ sym (ap decode_term c.fields_at-f.ensures);
       right_is = term-decoded _ _ pre.1 ∙ sym (ap decode_term c.fields_at-g.ensures);
     }
 
 alike : (c : After-fields_at2) → OneSymbol c.fields_at-f.result c.fields_at-g.result
-alike c = one_symbol (records c) (start_of c).requires.i_bound.2
+alike c = one_symbol (records c) c.requires.i_bound.2
 
 -- and their arguments, below n
 abbrev Below : After-fields_at2 → Type 0
 Below c =
-    let n = (start_of c).args.n in
+    let n = c.args.n in
     ArgumentsBelow n (decode_term c.fields_at-f.result) × ArgumentsBelow n (decode_term c.fields_at-g.result)
 
 arguments< : (c : After-fields_at2) → Below c
-arguments< c = let start = start_of c in below (records c) start.requires.sized.2 start.requires.sized.1 start.requires.i_bound.0 start.requires.i_bound.1
+arguments< c = below (records c) c.requires.sized.2 c.requires.sized.1 c.requires.i_bound.0 c.requires.i_bound.1
 
 pub tie_up-u-requires : goal.tie_up-u-requires
 tie_up-u-requires c =
-    let read = c.before.before.before.before.before in
-    let start = start_of read in
-    let l = firsts (alike read) (arguments< read) in record {
-      ties_len = omega (arith, start.requires.sized.1.terms);
-      labelled = start.requires.ties_len.3;
+    let l = firsts (alike c.before.before.before.before.before) (arguments< c.before.before.before.before.before) in record {
+      ties_len = omega (arith, c.requires.sized.1.terms);
+      labelled = c.requires.ties_len.3;
     }
 
 pub returns-then-f-eq3 : goal.returns-then-f-eq3
 returns-then-f-eq3 c =
-    let tied = c.before.before.before.before.before.before.before in
-    let read = tied.before.before.before.before.before in
-    one-tied (records read) (alike read) tied.tie_up-u.ensures c.if-f-eq3.true
+    one-tied (records c.before.before.before.before.before.before.before.before.before.before.before.before) (alike c.before.before.before.before.before.before.before.before.before.before.before.before) c.tie_up-u.ensures c.if-f-eq3.true
 
 pub tie_up-requires : goal.tie_up-requires
 tie_up-requires c =
-    let tested = c.before.before.before.before.before in
-    let tied = tested.before.before.before.before.before.before in
-    let read = tied.before.before.before.before.before in
-    let start = start_of read in
-    let l = seconds (alike read) tested.if-f-eq3.false (arguments< read) in record {
-      ties_len = omega (arith, tied.tie_up-u, start.requires.sized.1.terms);
-      labelled = tied.tie_up-u.ensures.longer.labelled;
+    let l = seconds (alike c.before.before.before.before.before.before.before.before.before.before.before.before.before.before.before.before) c.if-f-eq3.false (arguments< c.before.before.before.before.before.before.before.before.before.before.before.before.before.before.before.before) in record {
+      ties_len = omega (arith, c.tie_up-u, c.requires.sized.1.terms);
+      labelled = c.tie_up-u.ensures.longer.labelled;
     }
 
 pub returns : goal.returns
 returns c =
-    let last = c.before.before.before.before.before in
-    let tested = last.before.before.before.before.before in
-    let tied = tested.before.before.before.before.before.before in
-    let read = tied.before.before.before.before.before in
-    two-tied (records read) (alike read) tied.tie_up-u.ensures tested.if-f-eq3.false (firsts (alike read) (arguments< read)) last.tie_up.ensures
+    two-tied (records c.before.before.before.before.before.before.before.before.before.before.before.before.before.before.before.before.before.before.before.before.before) (alike c.before.before.before.before.before.before.before.before.before.before.before.before.before.before.before.before.before.before.before.before.before) c.tie_up-u.ensures c.if-f-eq3.false (firsts (alike c.before.before.before.before.before.before.before.before.before.before.before.before.before.before.before.before.before.before.before.before.before) (arguments< c.before.before.before.before.before.before.before.before.before.before.before.before.before.before.before.before.before.before.before.before.before)) c.tie_up.ensures

@@ -14,16 +14,11 @@ returns-then-together c = tied-already c.requires.labelled (one_label c.together
 
 pub push-requires : goal.push-requires
 push-requires c =
-    let tested = c.before.before.before in
-    let start = tested.before.before.before.before.before in
-    let l = few-more start.requires.labelled start.requires.ties_len.4 start.requires.ties_len.5 (two-labels tested.together.ensures tested.if-together.false) in
+    let l = few-more c.requires.labelled c.requires.ties_len.4 c.requires.ties_len.5 (two-labels c.together.ensures c.if-together.false) in
     omega arith
 
 pub returns : goal.returns
 returns c =
-    let pushed = c.before.before.before.before.before in
-    let tested = pushed.before.before.before in
-    let start = tested.before.before.before.before.before in
-    let apart = two-labels tested.together.ensures tested.if-together.false in
-    let l = few-more start.requires.labelled start.requires.ties_len.4 start.requires.ties_len.5 apart in
-    tied-now start.requires.ties_len.2 (omega arith) start.requires.ties_len.4 start.requires.ties_len.5 start.requires.labelled apart pushed.push.ensures
+    let apart = two-labels c.together.ensures c.if-together.false in
+    let l = few-more c.requires.labelled c.requires.ties_len.4 c.requires.ties_len.5 apart in
+    tied-now c.requires.ties_len.2 (omega arith) c.requires.ties_len.4 c.requires.ties_len.5 c.requires.labelled apart c.push.ensures

@@ -13,20 +13,18 @@ loop-i-init c = (omega arith, refl, (λ k h. absurd (omega arith)), kept-all _ _
 
 pub loop-i-preserved : goal.loop-i-preserved
 loop-i-preserved c =
-    let turn = c.before.before in (
+    (
       omega arith,
       simp length-set (omega arith),
-      filled turn.loop-i.best turn.loop-i.i (omega arith) turn.loop-i.invariant.2,
-      kept_set _ 0 turn.loop-i.i _ _ (omega arith) (omega arith) (omega arith) (omega arith) turn.loop-i.invariant.3,
+      filled c.loop-i.best c.loop-i.i (omega arith) c.loop-i.invariant.2,
+      kept_set _ 0 c.loop-i.i _ _ (omega arith) (omega arith) (omega arith) (omega arith) c.loop-i.invariant.3,
     )
 
 pub shape_of-best : goal.shape_of-best
 shape_of-best c = simp length-set (omega arith)
 
 pub returns : goal.returns
-returns c =
-    let turn = c.before.before in
-    let start = turn.before in record {
-      begun = begun start.args.n start.args.b turn.loop-i.best (omega arith) (omega arith) (λ k h. turn.loop-i.invariant.2 k (omega arith));
-      kept = kept_set _ 0 start.args.b _ _ (omega arith) (omega arith) (omega arith) (omega arith) turn.loop-i.invariant.3;
-    }
+returns c = record {
+  begun = begun c.args.n c.args.b c.loop-i.best (omega arith) (omega arith) (λ k h. c.loop-i.invariant.2 k (omega arith));
+  kept = kept_set _ 0 c.args.b _ _ (omega arith) (omega arith) (omega arith) (omega arith) c.loop-i.invariant.3;
+}

@@ -13,19 +13,17 @@ loop-i-init c = (refl, omega arith, refl, copied_none _ _, kept-all _ _)
 
 pub loop-i-preserved : goal.loop-i-preserved
 loop-i-preserved c =
-    let turn = c.before.before.before in
-    let h = turn.args.h in (
+    let h = c.args.h in (
       refl,
       omega arith,
       simp length-set (omega arith),
-      copied_more _ _ _ _ _ _ (omega arith) (omega arith) (omega arith) refl turn.loop-i.invariant.3,
-      kept_set _ (h + 1) turn.loop-i.i _ _ (omega arith) (omega arith) (omega arith) (omega arith) turn.loop-i.invariant.4,
+      copied_more _ _ _ _ _ _ (omega arith) (omega arith) (omega arith) refl c.loop-i.invariant.3,
+      kept_set _ (h + 1) c.loop-i.i _ _ (omega arith) (omega arith) (omega arith) (omega arith) c.loop-i.invariant.4,
     )
 
 pub returns : goal.returns
 returns c =
-    let turn = c.before.before in
-    let end : turn.loop-i.i ≡ turn.args.n = omega arith in record {
-      copied = rw end at turn.loop-i.invariant.3;
-      kept = turn.loop-i.invariant.4;
+    let end : c.loop-i.i ≡ c.args.n = omega arith in record {
+      copied = rw end at c.loop-i.invariant.3;
+      kept = c.loop-i.invariant.4;
     }

@@ -11,13 +11,11 @@ loop-e-init c = (omega arith, λ k h. absurd (omega arith))
 
 pub via-requires : goal.via-requires
 via-requires c =
-    let turn = c.before.before.before.before.before in
-    let start = turn.before.before.before.before.before in
-    let S = start.requires.sound in
+    let S = c.requires.sound in
     let e< = c.loop-e-test.true in record {
-      e_in_bounds = (omega (arith, S.all-tos), omega (arith, S.all_codes), omega (arith, S.to< turn.loop-e.e e<));
+      e_in_bounds = (omega (arith, S.all-tos), omega (arith, S.all_codes), omega (arith, S.to< c.loop-e.e e<));
       h_lt_stride = (omega arith, omega arith);
-      addable = start.requires.by_index turn.loop-e.e e<;
+      addable = c.requires.by_index c.loop-e.e e<;
     }
 
 pub returns-then-via-total : goal.returns-then-via-total
@@ -30,14 +28,13 @@ returns-then-via-total c =
 
 pub loop-e-preserved : goal.loop-e-preserved
 loop-e-preserved c =
-    let turn = c.before.before.before.before.before in (
+    (
       omega arith,
-      below_more _ _ turn.loop-e.invariant.1
+      below_more _ _ c.loop-e.invariant.1
           (⊎_elim (λ w g. w.2.left (omega (arith, w.1.ensures, g.sums))) (λ w g. w.left (omega (arith, c.wide.ensures, g.starts))) c.if-wide-i.branch),
     )
 
 pub returns : goal.returns
 returns c =
-    let turn = c.before.before in
-    let o = turn.requires.over in
-    absurd (turn.loop-e.invariant.1 o.number (omega (arith, o.there)) (record { there = o.there; starts = o.starts; sums = o.sums }))
+    let o = c.requires.over in
+    absurd (c.loop-e.invariant.1 o.number (omega (arith, o.there)) (record { there = o.there; starts = o.starts; sums = o.sums }))

@@ -10,21 +10,18 @@ use Rattle.layers.proofs.read.Goals as goal
 
 pub loop-h-init : goal.loop-h-init
 loop-h-init c =
-    let start = c.before.before.before.before.before.before in
-    (omega arith, start.requires.layers.0.few, refl, begin _ _ _ _ _ _ (omega arith) start.requires.layers.1)
+    (omega arith, c.requires.layers.0.few, refl, begin _ _ _ _ _ _ (omega arith) c.requires.layers.1)
 
 pub find-e-requires : goal.find-e-requires
 find-e-requires c =
-    let turn = c.before.before.before.before.before in
-    let start = turn.before.before.before.before.before.before in
-    let S = start.requires.sound in
-    let L = start.requires.layers.0 in
-    let R = turn.loop-h.invariant.3 in
-    let above : turn.loop-h.h ≡ turn.loop-h.h - 1 + 1 = omega arith in record {
+    let S = c.requires.sound in
+    let L = c.requires.layers.0 in
+    let R = c.loop-h.invariant.3 in
+    let above : c.loop-h.h ≡ c.loop-h.h - 1 + 1 = omega arith in record {
       sound = S;
       h_lt_stride = (omega arith, omega arith, omega arith);
-      by_index = addable-at _ _ S _ (omega arith) (omega arith) _ _ (omega (arith, L.few)) L.rows (turn.loop-h.h - 1) (omega arith);
-      over = chosen _ _ S _ _ _ _ _ _ _ _ _ above R (L.rows.next (turn.loop-h.h - 1) (omega arith)) _ (above-is _ _ S _ _ _ _ _ _ _ _ _ above R) c.if-total-best.true;
+      by_index = addable-at _ _ S _ (omega arith) (omega arith) _ _ (omega (arith, L.few)) L.rows (c.loop-h.h - 1) (omega arith);
+      over = chosen _ _ S _ _ _ _ _ _ _ _ _ above R (L.rows.next (c.loop-h.h - 1) (omega arith)) _ (above-is _ _ S _ _ _ _ _ _ _ _ _ above R) c.if-total-best.true;
     }
 
 pub overflow_cast-out : goal.overflow_cast-out
@@ -32,39 +29,33 @@ overflow_cast-out c = omega (arith, c.find-e.ensures.there, c.requires.sound.few
 
 pub loop-h-preserved-then-total-best : goal.loop-h-preserved-then-total-best
 loop-h-preserved-then-total-best c =
-    let turn = c.before.before.before.before.before.before.before.before in
-    let start = turn.before.before.before.before.before.before in
-    let S = start.requires.sound in
-    let L = start.requires.layers.0 in
-    let R = turn.loop-h.invariant.3 in
+    let S = c.requires.sound in
+    let L = c.requires.layers.0 in
+    let R = c.loop-h.invariant.3 in
     let found = c.find-e in
-    let above : turn.loop-h.h ≡ turn.loop-h.h - 1 + 1 = omega arith in
+    let above : c.loop-h.h ≡ c.loop-h.h - 1 + 1 = omega arith in
     rw c.wide-i.ensures (
       omega arith,
-      turn.loop-h.invariant.1,
+      c.loop-h.invariant.1,
       simp length-set (omega arith),
       on _ _ S _ _ _ _ _ _ _ _ _ above R _ _ (above-is _ _ S _ _ _ _ _ _ _ _ _ above R)
-          (addable-at _ _ S _ (omega arith) (omega arith) _ _ (omega (arith, L.few)) L.rows (turn.loop-h.h - 1) (omega arith) _ found.ensures.there)
+          (addable-at _ _ S _ (omega arith) (omega arith) _ _ (omega (arith, L.few)) L.rows (c.loop-h.h - 1) (omega arith) _ found.ensures.there)
           found.ensures (omega arith),
     )
 
 pub loop-h-preserved : goal.loop-h-preserved
 loop-h-preserved c =
-    let turn = c.before.before.before.before.before in
-    let start = turn.before.before.before.before.before.before in
-    let S = start.requires.sound in
-    let L = start.requires.layers.0 in
-    let R = turn.loop-h.invariant.3 in
-    let above : turn.loop-h.h ≡ turn.loop-h.h - 1 + 1 = omega arith in (
+    let S = c.requires.sound in
+    let L = c.requires.layers.0 in
+    let R = c.loop-h.invariant.3 in
+    let above : c.loop-h.h ≡ c.loop-h.h - 1 + 1 = omega arith in (
       omega arith,
-      turn.loop-h.invariant.1,
+      c.loop-h.invariant.1,
       omega arith,
       stay _ _ S _ _ _ _ _ _ _ _ _ above R
-          (kept-or _ _ S _ _ _ _ _ _ _ _ _ above R (L.rows.next (turn.loop-h.h - 1) (omega arith)) _ (above-is _ _ S _ _ _ _ _ _ _ _ _ above R) c.if-total-best.false),
+          (kept-or _ _ S _ _ _ _ _ _ _ _ _ above R (L.rows.next (c.loop-h.h - 1) (omega arith)) _ (above-is _ _ S _ _ _ _ _ _ _ _ _ above R) c.if-total-best.false),
     )
 
 pub returns : goal.returns
 returns c =
-    let turn = c.before.before in
-    let start = turn.before.before.before.before.before.before in
-    done _ _ _ _ _ _ _ _ _ _ _ (omega arith) start.requires.layers.0.rows.begun turn.loop-h.invariant.3
+    done _ _ _ _ _ _ _ _ _ _ _ (omega arith) c.requires.layers.0.rows.begun c.loop-h.invariant.3

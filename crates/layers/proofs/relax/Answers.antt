@@ -14,13 +14,11 @@ loop-e-init c = (refl, omega arith, refl, over_none _ _ _ _ c.requires.by_index,
 
 pub via-total-requires : goal.via-total-requires
 via-total-requires c =
-    let turn = c.before.before.before in
-    let start = turn.before.before.before.before.before in
-    let S = start.requires.sound in
+    let S = c.requires.sound in
     let e< = c.loop-e-test.true in record {
-      e_in_bounds = (omega (arith, S.all-tos), omega (arith, S.all_codes), omega (arith, S.to< turn.loop-e.e e<));
+      e_in_bounds = (omega (arith, S.all-tos), omega (arith, S.all_codes), omega (arith, S.to< c.loop-e.e e<));
       h_lt_stride = (omega arith, omega arith);
-      addable = rw (low-is _ _ S (omega arith) _ _ _ _ _ e< turn.loop-e.invariant.3) (start.requires.by_index_2 turn.loop-e.e e<);
+      addable = rw (low-is _ _ S (omega arith) _ _ _ _ _ e< c.loop-e.invariant.3) (c.requires.by_index_2 c.loop-e.e e<);
     }
 
 pub overflow_add-i-in-loop-e : goal.overflow_add-i-in-loop-e
@@ -40,11 +38,9 @@ bounds-best-i-then-total-best c = omega (arith, c.requires.sound.from< c.loop-e.
 
 pub loop-e-preserved : goal.loop-e-preserved
 loop-e-preserved c =
-    let turn = c.before.before.before.before.before.before.before.before in
-    let start = turn.before.before.before.before.before in
-    let S = start.requires.sound in
+    let S = c.requires.sound in
     let e< = c.loop-e-test.true in
-    let R = turn.loop-e.invariant.3 in
+    let R = c.loop-e.invariant.3 in
     let total = c.via-total.ensures in
     ⊎_elim
     (λ w.
@@ -52,18 +48,17 @@ loop-e-preserved c =
       refl,
       omega arith,
       simp length-set (omega arith),
-      better _ _ S (omega arith) _ _ _ _ _ e< R _ total _ (omega arith) (omega (arith, S.from< turn.loop-e.e e<)) w.0.taken,
-      kept_set _ (start.args.h + 1) _ _ _ (omega arith) (omega arith) (S.from< turn.loop-e.e e<) (omega arith) turn.loop-e.invariant.4,
+      better _ _ S (omega arith) _ _ _ _ _ e< R _ total _ (omega arith) (omega (arith, S.from< c.loop-e.e e<)) w.0.taken,
+      kept_set _ (c.args.h + 1) _ _ _ (omega arith) (omega arith) (S.from< c.loop-e.e e<) (omega arith) c.loop-e.invariant.4,
     ))
     (λ w.
     rw (w.1, w.2)
-    (refl, omega arith, omega arith, not-better _ _ S (omega arith) _ _ _ _ _ e< R _ total _ (omega arith) w.0.left, turn.loop-e.invariant.4))
+    (refl, omega arith, omega arith, not-better _ _ S (omega arith) _ _ _ _ _ e< R _ total _ (omega arith) w.0.left, c.loop-e.invariant.4))
     c.if-total-best.branch
 
 pub returns : goal.returns
 returns c =
-    let turn = c.before.before in
-    let end : turn.loop-e.e ≡ turn.args.m = omega arith in record {
-      row = rw end at turn.loop-e.invariant.3;
-      kept = turn.loop-e.invariant.4;
+    let end : c.loop-e.e ≡ c.args.m = omega arith in record {
+      row = rw end at c.loop-e.invariant.3;
+      kept = c.loop-e.invariant.4;
     }

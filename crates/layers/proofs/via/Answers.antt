@@ -4,8 +4,7 @@ use Rattle.layers.proofs.via.Goals as goal
 
 pub sum-requires : goal.sum-requires
 sum-requires c =
-    let start = c.before.before.before.before.before.before.before.before in
-    rw c.wide.ensures start.requires.addable
+    rw c.wide.ensures c.requires.addable
 
 pub returns : goal.returns
 returns c = rw c.wide.ensures at c.sum.ensures.code

@@ -7,9 +7,8 @@ use Rattle.layers.proofs.walk.Goals as goal
 pub read-requires : goal.read-requires
 read-requires c =
     let filled = c.fill-h in
-    let start = c.before.before.before.before.before.before.before.before.before.before.before.before in
-    let S = start.requires.sound in
-    let way = start.requires.reachable.way in record {
+    let S = c.requires.sound in
+    let way = c.requires.reachable.way in record {
       sound = S;
       n_le_stride = (omega arith, omega arith, omega arith, omega (arith, filled.auto.best), omega arith);
       layers = (filled.ensures.layers, found _ _ S _ (omega arith) (omega arith) _ _ filled.ensures.layers way.walk way.few);
@@ -17,8 +16,7 @@ read-requires c =
 
 pub returns : goal.returns
 returns c =
-    let start = c.before.before.before.before.before.before.before.before.before.before.before.before.before.before.before in
     let filled = c.fill-h.ensures in record {
-      least = written _ _ start.requires.sound _ (omega arith) (omega arith) _ _ _ _ _ _ filled.layers c.read.ensures;
+      least = written _ _ c.requires.sound _ (omega arith) (omega arith) _ _ _ _ _ _ filled.layers c.read.ensures;
       kept = filled.kept;
     }

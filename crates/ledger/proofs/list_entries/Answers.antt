@@ -9,28 +9,23 @@ use Rattle.ledger.proofs.list_entries.Goals as goal
 
 pub loop-e-init : goal.loop-e-init
 loop-e-init c =
-    let start = c.before.before.before.before.before.before.before.before in
-    (omega arith, c.count_entries-l.ensures.0, omega arith, omega arith, omega arith, omega arith, start.requires.ledger)
+    (omega arith, c.count_entries-l.ensures.0, omega arith, omega arith, omega arith, omega arith, c.requires.ledger)
 
 pub entry_at-requires : goal.entry_at-requires
 entry_at-requires c =
-    let loop = c.before.before.before.before.before.before.before.before in
-    (loop.requires.sized.0, omega arith)
+    (c.requires.sized.0, omega arith)
 
 pub list_entry-m-requires : goal.list_entry-m-requires
 list_entry-m-requires c =
-    let loop = c.before.before.before.before.before.before.before.before.before in
-    let few = loop.loop-e.invariant.6.few in
-    let wf = loop.requires.sized.1 in
+    let few = c.loop-e.invariant.6.few in
+    let wf = c.requires.sized.1 in
     (omega arith, omega arith, omega arith, omega arith)
 
 pub loop-e-preserved : goal.loop-e-preserved
 loop-e-preserved c =
-    let loop = c.before.before.before.before in
-    let start = loop.before.before.before.before.before.before.before.before in
-    let inv = loop.loop-e.invariant in
-    let wf = start.requires.sized.1 in
-    let e< : loop.loop-e.e + 1 ≤ loop.count_entries-l.result = omega arith in
+    let inv = c.loop-e.invariant in
+    let wf = c.requires.sized.1 in
+    let e< : c.loop-e.e + 1 ≤ c.count_entries-l.result = omega arith in
     ⊎_elim
     (λ w. (
       e<,

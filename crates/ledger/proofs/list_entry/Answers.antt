@@ -20,20 +20,15 @@ single-requires-in-Less c = record {
 
 pub returns-in-Equal : goal.returns-in-Equal
 returns-in-Equal c =
-    let called = c.before.before.before.before.before.before.before.before.before in
-    rw called.in-Equal.is called.pair.ensures
+    rw c.in-Equal.is c.pair.ensures
 
 pub returns-in-Unequal : goal.returns-in-Unequal
 returns-in-Unequal c = rw c.in-Unequal.is nothing_put
 
 pub returns-in-AtMost : goal.returns-in-AtMost
 returns-in-AtMost c =
-    let called = c.before.before.before.before.before.before.before.before.before in
-    let gap = called.before in
-    rw gap.in-AtMost.is (rw (weak-to _ _ gap.to.ensures) at called.single.ensures)
+    rw c.in-AtMost.is (rw (weak-to _ _ c.to.ensures) at c.single.ensures)
 
 pub returns-in-Less : goal.returns-in-Less
 returns-in-Less c =
-    let called = c.before.before.before.before.before.before.before.before.before in
-    let gap = called.before in
-    rw gap.in-Less.is (rw (strict-to _ _ gap.under.ensures) at called.single-in-Less.ensures)
+    rw c.in-Less.is (rw (strict-to _ _ c.under.ensures) at c.single-in-Less.ensures)

@@ -32,13 +32,11 @@ free (Apply2 s a b) z i k = refl
 
 pub returns-in-Number : goal.returns-in-Number
 returns-in-Number c =
-    let called = c.before.before.before.before.before.before.before.before.before in
-    rw called.in-Number.is called.pair.ensures
+    rw c.in-Number.is c.pair.ensures
 
 pub returns-in-Shift : goal.returns-in-Shift
 returns-in-Shift c =
-    let called = c.before.before.before.before.before.before.before.before.before in
-    rw called.in-Shift.is called.pair-in-Shift.ensures
+    rw c.in-Shift.is c.pair-in-Shift.ensures
 
 pub returns-in_default : goal.returns-in_default
 returns-in_default c = rw (free c.args.t _ _ c.in_default.in_default-own.keys3) nothing_put

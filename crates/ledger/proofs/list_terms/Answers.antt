@@ -12,30 +12,26 @@ loop-i-init c = (omega arith, c.count_terms-t.ensures.0, omega arith, omega arit
 
 pub term_at-requires : goal.term_at-requires
 term_at-requires c =
-    let loop = c.before.before.before.before.before.before in
-    (loop.requires.sized.0, omega arith)
+    (c.requires.sized.0, omega arith)
 
 pub list_term-m-requires : goal.list_term-m-requires
 list_term-m-requires c =
-    let loop = c.before.before.before.before.before.before.before in
-    let few = (loop.loop-i.invariant.6 every).few in
-    let wf = loop.requires.sized.1 in
+    let few = (c.loop-i.invariant.6 every).few in
+    let wf = c.requires.sized.1 in
     (omega arith, omega arith, omega arith, omega arith)
 
 pub loop-i-preserved : goal.loop-i-preserved
 loop-i-preserved c =
-    let called = c.before.before.before.before.before.before.before.before.before in
-    let loop = called.before.before.before.before.before.before.before in
-    let wf = loop.requires.sized.1 in (
+    let wf = c.requires.sized.1 in (
       omega arith,
-      loop.loop-i.invariant.1,
+      c.loop-i.invariant.1,
       omega arith,
       omega arith,
       omega arith,
       omega arith,
       λ S.
-          term-more (loop.loop-i.invariant.6 S) (omega arith, omega arith, omega arith) (omega arith) wf (omega arith) loop.loop-i.invariant.1
-          called.term_at.ensures called.list_term-m.ensures,
+          term-more (c.loop-i.invariant.6 S) (omega arith, omega arith, omega arith) (omega arith) wf (omega arith) c.loop-i.invariant.1
+          c.term_at.ensures c.list_term-m.ensures,
     )
 
 pub returns : goal.returns

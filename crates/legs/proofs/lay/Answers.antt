@@ -6,7 +6,4 @@ use Rattle.legs.proofs.lay.Goals as goal
 
 pub returns : goal.returns
 returns c =
-    let terms = c.before.before.before in
-    let entries = terms.before.before.before.before in
-    let start = entries.before.before.before.before.before in
-    all_laid (omega (arith, start.requires.1.entries)) entries.lay_entries.ensures terms.lay_terms.ensures
+    all_laid (omega (arith, c.requires.1.entries)) c.lay_entries.ensures c.lay_terms.ensures

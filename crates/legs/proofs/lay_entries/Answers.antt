@@ -15,9 +15,8 @@ entry_at-requires c = (c.requires.0, omega arith)
 
 pub loop-e-preserved : goal.loop-e-preserved
 loop-e-preserved c =
-    let entry = c.before.before.before in
-    let inv = entry.loop-e.invariant in
-    (omega arith, inv.1, simp length-set inv.2, one_entry (omega arith) inv.3 (rw entry.entry_at.ensures at c.entry_leg.ensures))
+    let inv = c.loop-e.invariant in
+    (omega arith, inv.1, simp length-set inv.2, one_entry (omega arith) inv.3 (rw c.entry_at.ensures at c.entry_leg.ensures))
 
 pub returns : goal.returns
 returns c =

@@ -15,9 +15,8 @@ term_at-requires c = (c.requires.0, omega arith)
 
 pub loop-i-preserved : goal.loop-i-preserved
 loop-i-preserved c =
-    let term = c.before.before in
-    let inv = term.loop-i.invariant in
-    let leg = rw (term.term_at.ensures, inv.2) at c.term_leg.ensures in
+    let inv = c.loop-i.invariant in
+    let leg = rw (c.term_at.ensures, inv.2) at c.term_leg.ensures in
     (omega arith, omega arith, inv.2, simp length-set inv.3, one-term (omega arith) inv.4 leg)
 
 pub returns : goal.returns

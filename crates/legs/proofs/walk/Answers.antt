@@ -10,28 +10,21 @@ loop-x-init c = (omega arith, omega arith, ahead_none)
 
 pub returns-then-name-ge1536 : goal.returns-then-name-ge1536
 returns-then-name-ge1536 c =
-    let loop = c.before.before.before.before in
-    ahead-wrong _ loop.requires.1 loop.loop-x.invariant.2 c.loop-x-test.true (omega arith)
+    ahead-wrong _ c.requires.1 c.loop-x.invariant.2 c.loop-x-test.true (omega arith)
 
 pub further-requires : goal.further-requires
 further-requires c = (omega arith, c.loop-x.invariant.1)
 
 pub returns-in-Nowhere : goal.returns-in-Nowhere
 returns-in-Nowhere c =
-    let further = c.before.before.before in
-    let test = further.before.before.before.before in
-    let loop = test.before in
-    ahead-lost _ loop.requires.1 loop.loop-x.invariant.2 test.loop-x-test.true
-    (rw c.in-Nowhere.is at further.further.ensures)
+    ahead-lost _ c.requires.1 c.loop-x.invariant.2 c.loop-x-test.true
+    (rw c.in-Nowhere.is at c.further.ensures)
 
 pub loop-x-preserved : goal.loop-x-preserved
 loop-x-preserved c =
-    let further = c.before.before.before.before in
-    let test = further.before.before.before.before in
-    let loop = test.before in
-    let gone = rw c.in-To.is at further.further.ensures in
-    let fits = loop.requires.1 in
-    (omega arith, further-gap gone, ahead_more _ fits loop.loop-x.invariant.2 test.loop-x-test.true (omega arith) gone)
+    let gone = rw c.in-To.is at c.further.ensures in
+    let fits = c.requires.1 in
+    (omega arith, further-gap gone, ahead_more _ fits c.loop-x.invariant.2 c.loop-x-test.true (omega arith) gone)
 
 pub returns : goal.returns
 returns c = ahead-all _ c.requires.1 c.loop-x.invariant.2 c.loop-x-test.false

@@ -11,13 +11,11 @@ loop-top-init c = climbs-begin (omega arith)
 
 pub loop-top-smaller : goal.loop-top-smaller
 loop-top-smaller c =
-    let test = c.before.before.before.before.before in
-    climbs-higher test.loop-top.invariant test.requires.1 test.by.ensures (omega arith) c.up-top.ensures
+    climbs-higher c.loop-top.invariant c.requires.1 c.by.ensures (omega arith) c.up-top.ensures
 
 pub loop-top-preserved : goal.loop-top-preserved
 loop-top-preserved c =
-    let test = c.before.before.before.before.before in
-    climbs-on test.loop-top.invariant test.by.ensures (omega arith) c.gap.ensures c.up-top.ensures
+    climbs-on c.loop-top.invariant c.by.ensures (omega arith) c.gap.ensures c.up-top.ensures
 
 pub returns : goal.returns
 returns c = climbs-end c.loop-top.invariant (sym c.by.ensures ∙ c.loop-top-test.false)

@@ -37,6 +37,5 @@ loop-x-preserved c =
 
 pub returns : goal.returns
 returns c =
-    let end = c.before.before.before.before.before.before in
-    let e : end.loop-x.x ≡ end.args.n = omega arith in
-    named _ _ _ _ _ _ (omega arith) (rw e at end.loop-x.invariant.3) end.loop-x.invariant.4 c.head.ensures (λ k. (c.slice_known-2-1.given k).fits)
+    let e : c.loop-x.x ≡ c.args.n = omega arith in
+    named _ _ _ _ _ _ (omega arith) (rw e at c.loop-x.invariant.3) c.loop-x.invariant.4 c.head.ensures (λ k. (c.slice_known-2-1.given k).fits)

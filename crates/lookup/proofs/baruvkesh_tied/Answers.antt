@@ -11,11 +11,8 @@ returns-then-a-ge-STRIDE c = rw (eq-eqb _ _ c.if-d-ne-CELLS.false, le-ltb _ _ c.
 
 pub returns-then-b-ge-STRIDE : goal.returns-then-b-ge-STRIDE
 returns-then-b-ge-STRIDE c =
-    let first = c.before.before in
-    rw (eq-eqb _ _ first.if-d-ne-CELLS.false, lt-ltb _ _ first.if-a-ge-STRIDE.false, le-ltb _ _ c.if-b-ge-STRIDE.true)
+    rw (eq-eqb _ _ c.if-d-ne-CELLS.false, lt-ltb _ _ c.if-a-ge-STRIDE.false, le-ltb _ _ c.if-b-ge-STRIDE.true)
 
 pub returns : goal.returns
 returns c =
-    let second = c.before.before in
-    let first = second.before in
-    rw (eq-eqb _ _ first.if-d-ne-CELLS.false, lt-ltb _ _ first.if-a-ge-STRIDE.false, lt-ltb _ _ second.if-b-ge-STRIDE.false) c.tied.ensures
+    rw (eq-eqb _ _ c.if-d-ne-CELLS.false, lt-ltb _ _ c.if-a-ge-STRIDE.false, lt-ltb _ _ c.if-b-ge-STRIDE.false) c.tied.ensures

@@ -25,8 +25,7 @@ overflow_add-first c = omega (arith, c.shared_slice_known-2-1.given 3)
 pub loop-e-init : goal.loop-e-init
 loop-e-init c = none_yet refl (omega (arith, c.shared_slice_known-3-1.given 4))
 
-tested : (c : After-wrong_entry) → let loop = c.before.before.before in
-    c.wrong_entry.result ≡ wrong_entry_of loop.args.sheet.now loop.loop-e.e
+tested : (c : After-wrong_entry) → c.wrong_entry.result ≡ wrong_entry_of c.args.sheet.now c.loop-e.e
 unfolding wrong_entry_of
 tested c = c.wrong_entry.ensures ∙ ap (wrong_entry _) c.fields_at.ensures
 

@@ -16,8 +16,7 @@ After-wrong_term = lts.After-wrong_term tie.the-claims reads.Pre reads.Post goal
 pub loop-i-init : goal.loop-i-init
 loop-i-init c = none_yet refl (omega (arith, c.shared_slice_known-2-1.given 3))
 
-tested : (c : After-wrong_term) → let loop = c.before.before.before in
-    c.wrong_term.result ≡ wrong_term_of loop.args.sheet.now loop.loop-i.i
+tested : (c : After-wrong_term) → c.wrong_term.result ≡ wrong_term_of c.args.sheet.now c.loop-i.i
 unfolding wrong_term_of
 tested c = c.wrong_term.ensures ∙ ap (wrong_term _) c.fields_at.ensures
 

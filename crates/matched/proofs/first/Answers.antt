@@ -31,6 +31,5 @@ loop-i-preserved c =
 pub returns : goal.returns
 returns c =
     let loop = c.loop-i in
-    let start = c.before.before.before.before.before.before in
-    let end : loop.i ≡ count_terms (sheet_of start.args.sheet.now) = omega (arith, loop.invariant.1) in
-    rw end (first-none start.requires.d_len.1 (rw end at loop.invariant.2))
+    let end : loop.i ≡ count_terms (sheet_of c.args.sheet.now) = omega (arith, loop.invariant.1) in
+    rw end (first-none c.requires.d_len.1 (rw end at loop.invariant.2))

@@ -11,10 +11,10 @@ pub loop-j-init : goal.loop-j-init
 loop-j-init c = (omega arith, λ k k<. absurd (omega arith))
 
 pub overflow_cast-i : goal.overflow_cast-i
-overflow_cast-i c = let start = c.before.before.before.before.before in omega (arith, start.requires.sized.1.terms)
+overflow_cast-i c = omega (arith, c.requires.sized.1.terms)
 
 pub overflow_cast-j : goal.overflow_cast-j
-overflow_cast-j c = let start = c.before.before.before.before.before in omega (arith, start.requires.sized.1.terms)
+overflow_cast-j c = omega (arith, c.requires.sized.1.terms)
 
 pub untied-requires : goal.untied-requires
 untied-requires c =

@@ -6,9 +6,8 @@ use Rattle.matched.proofs.untied.Goals as goal
 
 pub tied_at-requires : goal.tied_at-requires
 tied_at-requires c =
-    let counted = c.before.before.before in
-    let pre = counted.requires in record {
-      d_len = (pre.d_len.0, omega (arith, pre.sized.1.terms), rw counted.count_terms-n.ensures.0 pre.d_len.1);
+    let pre = c.requires in record {
+      d_len = (pre.d_len.0, omega (arith, pre.sized.1.terms), rw c.count_terms-n.ensures.0 pre.d_len.1);
       a_lt_n = (omega (arith, pre.i_bound), omega (arith, pre.i_bound));
     }
 
@@ -17,5 +16,4 @@ returns-then-tied_at c = refuted (λ U. U.untied (c.tied_at.ensures.yes c.if-tie
 
 pub returns : goal.returns
 returns c =
-    let asked = c.before.before in
-    told (λ J. record { joined = J; untied = asked.tied_at.ensures.no asked.if-tied_at.false }) (λ U. U.joined) c.same_at.ensures
+    told (λ J. record { joined = J; untied = c.tied_at.ensures.no c.if-tied_at.false }) (λ U. U.joined) c.same_at.ensures

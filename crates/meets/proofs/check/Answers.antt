@@ -26,38 +26,30 @@ ready c near =
 
 pub terms-requires : goal.terms-requires
 terms-requires c =
-    let counted = c.before.before.before in
-    let pre = counted.requires in record {
+    let pre = c.requires in record {
       sized = pre.sized;
-      t_value = (counted.count_terms-t.ensures.0, pre.le_d.1, ready counted (c.limits.ensures.yes c.if-limits.true));
+      t_value = (c.count_terms-t.ensures.0, pre.le_d.1, ready c.before.before.before (c.limits.ensures.yes c.if-limits.true));
     }
 
 pub entries-requires : goal.entries-requires
 entries-requires c =
-    let limited = c.before.before.before in
-    let counted = limited.before.before in
-    let pre = counted.requires in record {
+    let pre = c.requires in record {
       sized = (pre.sized.0, pre.sized.1, pre.sheet_in_bounds.0);
-      t_value = (counted.count_terms-t.ensures.0, pre.le_d.1, ready counted (limited.limits.ensures.yes limited.if-limits.true));
+      t_value = (c.count_terms-t.ensures.0, pre.le_d.1, ready c.before.before.before.before.before (c.limits.ensures.yes c.if-limits.true));
     }
 
 pub returns-then-terms : goal.returns-then-terms
 returns-then-terms c =
-    let tested = c.before.before in
-    let limited = tested.before.before in
-    let counted = limited.before.before in
-    let pre = counted.requires in
+    let pre = c.requires in
     told
-    (met counted.count_terms-t.ensures.0 pre.le_d.0 (limited.limits.ensures.yes limited.if-limits.true)
-    (tested.terms.ensures.yes tested.if-terms.true))
+    (met c.count_terms-t.ensures.0 pre.le_d.0 (c.limits.ensures.yes c.if-limits.true)
+    (c.terms.ensures.yes c.if-terms.true))
     entries-of c.entries.ensures
 
 pub returns-else-terms : goal.returns-else-terms
 returns-else-terms c =
-    let counted = c.before.before.before.before.before in
-    refuted (λ m. c.terms.ensures.no c.if-terms.false (terms-of counted.count_terms-t.ensures.0 m))
+    refuted (λ m. c.terms.ensures.no c.if-terms.false (terms-of c.count_terms-t.ensures.0 m))
 
 pub returns-else-limits : goal.returns-else-limits
 returns-else-limits c =
-    let counted = c.before.before.before in
-    refuted (λ m. c.limits.ensures.no c.if-limits.false (near_of counted.count_terms-t.ensures.0 m))
+    refuted (λ m. c.limits.ensures.no c.if-limits.false (near_of c.count_terms-t.ensures.0 m))

@@ -17,32 +17,25 @@ loop-e-init c = (omega arith, c.count_entries-l.ensures.0, entries_none)
 
 pub entry_true-requires : goal.entry_true-requires
 entry_true-requires c =
-    let loop = c.before.before.before.before.before in
-    let counted = loop.before.before in
-    let pre = counted.requires in
-    let below = entry-below {i = loop.loop-e.e} pre.sized.1 (omega arith) c.entry_at.ensures in
+    let pre = c.requires in
+    let below = entry-below {i = c.loop-e.e} pre.sized.1 (omega arith) c.entry_at.ensures in
     (pre.t_value.2, pre.t_value.1, omega (arith, pre.t_value.0, below), omega (arith, pre.t_value.0, below))
 
 pub returns-then-not-entry_true : goal.returns-then-not-entry_true
 returns-then-not-entry_true c =
-    let read = c.before.before.before in
-    let loop = read.before.before.before.before in
-    let start = loop.before.before.before.before.before in
-    let args = start.args in
-    let test = entry-told (sheet_of args.sheet.now) args.d loop.loop-e.e args.v.now
-    start.requires.t_value.0 read.entry_at.ensures c.entry_true.ensures in
-    refuted (λ m. test.no (not-true _ c.if-not-entry_true.true-raw) (m.entries loop.loop-e.e (omega arith) read.if-set-e.true))
+    let args = c.args in
+    let test = entry-told (sheet_of args.sheet.now) args.d c.loop-e.e args.v.now
+    c.requires.t_value.0 c.entry_at.ensures c.entry_true.ensures in
+    refuted (λ m. test.no (not-true _ c.if-not-entry_true.true-raw) (m.entries c.loop-e.e (omega arith) c.if-set-e.true))
 
 pub loop-e-preserved : goal.loop-e-preserved
 loop-e-preserved c =
-    let loop = c.before.before.before.before in
-    let start = loop.before.before.before.before.before in
-    let args = start.args in (
+    let args = c.args in (
       omega arith,
-      loop.loop-e.invariant.1,
-      entries-more loop.loop-e.invariant.2
-          (⊎_elim (λ w m. (entry-told (sheet_of args.sheet.now) args.d loop.loop-e.e args.v.now
-          start.requires.t_value.0 w.1.ensures w.2.ensures).yes (not-false _ w.3.left))
+      c.loop-e.invariant.1,
+      entries-more c.loop-e.invariant.2
+          (⊎_elim (λ w m. (entry-told (sheet_of args.sheet.now) args.d c.loop-e.e args.v.now
+          c.requires.t_value.0 w.1.ensures w.2.ensures).yes (not-false _ w.3.left))
           (λ w m. absurd (true≢false (sym m ∙ w.left))) c.if-set-e.branch),
     )
 

@@ -13,13 +13,11 @@ loop-i-init c = (omega arith, search rules, limited-none)
 
 pub overflow_add-near : goal.overflow_add-near
 overflow_add-near c =
-    let start = c.before.before.before.before.before in
-    omega (arith, start.requires.1 start.args.t (omega arith))
+    omega (arith, c.requires.1 c.args.t (omega arith))
 
 pub overflow_add-near-in-loop-i : goal.overflow_add-near-in-loop-i
 overflow_add-near-in-loop-i c =
-    let loop = c.before.before.before in
-    omega (arith, loop.requires.1 loop.loop-i.i (omega arith))
+    omega (arith, c.requires.1 c.loop-i.i (omega arith))
 
 pub loop-i-preserved : goal.loop-i-preserved
 loop-i-preserved c =

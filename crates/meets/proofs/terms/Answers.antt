@@ -36,34 +36,26 @@ After-defined = lts.After-defined tie.the-claims reads.Pre reads.Post goal.the-i
 asked : (c : After-term_at) → let args = c.args in
     Ready args.v.now args.t × ArgumentsBelow args.t (term_says c.term_at-x.result)
 asked c =
-    let loop = c.before.before in
-    let pre = loop.requires in (
+    let pre = c.requires in (
       pre.t_value.2,
-      rw c.term_at-x.ensures (arguments-wider (omega arith) (pre.sized.1.arguments loop.loop-i.i (omega arith))),
+      rw c.term_at-x.ensures (arguments-wider (omega arith) (pre.sized.1.arguments c.loop-i.i (omega arith))),
     )
 
 -- its keys
-keys : (c : After-input_of) → let loop = c.before.before.before.before in
-    let args = loop.args in
-    Input (sheet_of args.sheet.now) args.v.now loop.loop-i.i c.input_of-input.result.first c.input_of-input.result.second
+keys : (c : After-input_of) → let args = c.args in
+    Input (sheet_of args.sheet.now) args.v.now c.loop-i.i c.input_of-input.result.first c.input_of-input.result.second
 keys c =
-    let read = c.before.before in
-    input read.requires.t_value.0 read.term_at-x.ensures c.input_of-input.ensures
+    input c.requires.t_value.0 c.term_at-x.ensures c.input_of-input.ensures
 
 -- what both tests of it say
-tests : (c : After-defined) → let keyed = c.before.before.before.before in
-    let loop = keyed.before.before.before.before in
-    let args = loop.args in
+tests : (c : After-defined) → let args = c.args in
     Decides
-    (RowAgrees c.row-agrees.new.keys args.v.now keyed.input_of-input.result.first keyed.input_of-input.result.second (get_or args.v.now loop.loop-i.i 0) loop.loop-i.i ×
-    Defined args.d (value (sheet_of args.sheet.now) args.v.now) (value (sheet_of args.sheet.now) args.v.now loop.loop-i.i) (term_at (sheet_of args.sheet.now) loop.loop-i.i))
+    (RowAgrees c.row-agrees.new.keys args.v.now c.input_of-input.result.first c.input_of-input.result.second (get_or args.v.now c.loop-i.i 0) c.loop-i.i ×
+    Defined args.d (value (sheet_of args.sheet.now) args.v.now) (value (sheet_of args.sheet.now) args.v.now c.loop-i.i) (term_at (sheet_of args.sheet.now) c.loop-i.i))
     (c.row-agrees.result && c.defined.result)
 tests c =
-    let read = c.before.before.before.before.before.before in
-    let loop = read.before.before in
-    let start = loop.before.before.before in
     both_told _ _ c.row-agrees.ensures.agrees
-    (term_told (sheet_of start.args.sheet.now) start.args.d loop.loop-i.i start.args.v.now start.requires.t_value.0 read.term_at-x.ensures c.defined.ensures)
+    (term_told (sheet_of c.args.sheet.now) c.args.d c.loop-i.i c.args.v.now c.requires.t_value.0 c.term_at-x.ensures c.defined.ensures)
 
 pub loop-i-init : goal.loop-i-init
 loop-i-init c =
@@ -77,33 +69,27 @@ row-agrees-requires c =
 
 pub defined-requires : goal.defined-requires
 defined-requires c =
-    let read = c.before.before.before.before.before.before in
-    let loop = read.before.before in
-    let pre = loop.requires in
-    ((asked read).0, pre.t_value.1, level-low loop.loop-i.i (asked read).0 (omega arith), (asked read).1)
+    let pre = c.requires in
+    ((asked c.before.before.before.before.before.before).0, pre.t_value.1, level-low c.loop-i.i (asked c.before.before.before.before.before.before).0 (omega arith), (asked c.before.before.before.before.before.before).1)
 
 pub loop-i-preserved : goal.loop-i-preserved
 loop-i-preserved c =
-    let keyed = c.before.before.before.before.before.before in
-    let loop = keyed.before.before.before.before in
     let row = c.row-agrees.ensures.1 in
     let (agrees, own) = (tests c.before.before).yes c.if-agrees-defined.true in (
       omega arith,
-      loop.loop-i.invariant.1,
-      kept_more loop.loop-i.invariant.2 (omega arith) (keys keyed) row.0 row.1,
-      terms-more loop.loop-i.invariant.3 own (row-functional (keyed-more loop.loop-i.invariant.2 (omega arith) (keys keyed) row.0) (keys keyed) agrees),
+      c.loop-i.invariant.1,
+      kept_more c.loop-i.invariant.2 (omega arith) (keys c.before.before.before.before.before.before) row.0 row.1,
+      terms-more c.loop-i.invariant.3 own (row-functional (keyed-more c.loop-i.invariant.2 (omega arith) (keys c.before.before.before.before.before.before) row.0) (keys c.before.before.before.before.before.before) agrees),
     )
 
 pub returns-else-agrees-defined : goal.returns-else-agrees-defined
 returns-else-agrees-defined c =
-    let keyed = c.before.before.before.before.before.before in
-    let loop = keyed.before.before.before.before in
-    let pre = loop.requires in
+    let pre = c.requires in
     let row = c.row-agrees.ensures.1 in
     refuted (λ m. (tests c.before.before).no c.if-agrees-defined.false (
-      functional-row (keyed-more loop.loop-i.invariant.2 (omega arith) (keys keyed) row.0) (keys keyed) pre.sized.1
-          (rw pre.t_value.0 at pre.t_value.2.near) (omega (arith, pre.t_value.0)) (m.functions loop.loop-i.i (omega arith)),
-      m.defined loop.loop-i.i (omega arith),
+      functional-row (keyed-more c.loop-i.invariant.2 (omega arith) (keys c.before.before.before.before.before.before) row.0) (keys c.before.before.before.before.before.before) pre.sized.1
+          (rw pre.t_value.0 at pre.t_value.2.near) (omega (arith, pre.t_value.0)) (m.functions c.loop-i.i (omega arith)),
+      m.defined c.loop-i.i (omega arith),
     ))
 
 pub returns : goal.returns

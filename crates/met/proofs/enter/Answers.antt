@@ -11,23 +11,19 @@ loop-j-init c = none_yet _ _ _
 
 pub returns-then-m-j : goal.returns-then-m-j
 returns-then-m-j c =
-    let loop = c.before.before.before.before in
-    let args = loop.args in
-    rw (told-met args.m.now args.key args.e (found loop.loop-j.invariant (omega arith) (omega arith) c.if-m-j.true) (omega arith)) (refl, refl)
+    let args = c.args in
+    rw (told-met args.m.now args.key args.e (found c.loop-j.invariant (omega arith) (omega arith) c.if-m-j.true) (omega arith)) (record { answer = refl; memory = refl })
 
 pub loop-j-preserved : goal.loop-j-preserved
 loop-j-preserved c =
-    let loop = c.before.before.before.before in
-    one_more loop.loop-j.invariant (omega arith) (omega arith) c.if-m-j.false
+    one_more c.loop-j.invariant (omega arith) (omega arith) c.if-m-j.false
 
 pub returns-then-count-ge-MAX_TERMS : goal.returns-then-count-ge-MAX_TERMS
 returns-then-count-ge-MAX_TERMS c =
-    let loop = c.before.before.before in
-    let args = loop.args in
-    rw (told-full args.m.now args.key args.e (at-end loop.loop-j.invariant (omega arith) (omega arith)) (omega arith)) (refl, refl)
+    let args = c.args in
+    rw (told-full args.m.now args.key args.e (at-end c.loop-j.invariant (omega arith) (omega arith)) (omega arith)) (record { answer = refl; memory = refl })
 
 pub returns : goal.returns
 returns c =
-    let loop = c.before.before.before in
-    let args = loop.args in
-    rw (told-new args.m.now args.key args.e (at-end loop.loop-j.invariant (omega arith) (omega arith)) (omega arith)) (refl, refl)
+    let args = c.args in
+    rw (told-new args.m.now args.key args.e (at-end c.loop-j.invariant (omega arith) (omega arith)) (omega arith)) (record { answer = refl; memory = refl })

@@ -17,23 +17,17 @@ use Rattle.needed.proofs.arguments.Goals as goal
 abbrev After-fields_at2 : Type 0
 After-fields_at2 = lts.After-fields_at2 tie.the-claims reads.Pre reads.Post
 
-abbrev Start : Type 0
-Start = lts.Start tie.the-claims reads.Pre reads.Post
-
-abbrev start_of : After-fields_at2 → Start
-start_of r = r.before.before.before.before.before.before
-
 abbrev label_of : After-fields_at2 → ℕ → ℕ
-label_of r = cell (start_of r).args.labels.now (start_of r).args.t
+label_of r = cell r.args.labels.now r.args.t
 
 abbrev term_of : After-fields_at2 → ℕ → Term
-term_of r = term_at (sheet_of (start_of r).args.sheet.now)
+term_of r = term_at (sheet_of r.args.sheet.now)
 
 -- what both records say
-read : (r : After-fields_at2) → Faced (λ a b. label_of r a ≡ label_of r b) (start_of r).args.n r.fields_at-f.result r.fields_at-g.result
-    (term_of r (start_of r).args.i) (term_of r (start_of r).args.j)
+read : (r : After-fields_at2) → Faced (λ a b. label_of r a ≡ label_of r b) r.args.n r.fields_at-f.result r.fields_at-g.result
+    (term_of r r.args.i) (term_of r r.args.j)
 read r =
-    let pre = (start_of r).requires in
+    let pre = r.requires in
     let wf = pre.sized.1 in
     faced (ap decode_term r.fields_at-f.ensures ∙ sym (term-decoded _ _ pre.sized.3))
     (ap decode_term r.fields_at-g.ensures ∙ sym (term-decoded _ _ pre.sized.4))
@@ -41,35 +35,30 @@ read r =
 
 pub fields_at-f-requires : goal.fields_at-f-requires
 fields_at-f-requires c =
-    let start = c.before.before.before.before.before in
-    omega (arith, terms-stated start.args.sheet.now, start.requires.sized)
+    omega (arith, terms-stated c.args.sheet.now, c.requires.sized)
 
 pub fields_at-g-requires : goal.fields_at-g-requires
 fields_at-g-requires c =
-    let start = c.before.before.before.before.before.before in
-    omega (arith, terms-stated start.args.sheet.now, start.requires.sized)
+    omega (arith, terms-stated c.args.sheet.now, c.requires.sized)
 
 pub mark-requires : goal.mark-requires
 mark-requires c =
-    let r = c.before.before.before.before in
-    let pre = (start_of r).requires in
-    let F = firsts (read r) in record {
+    let pre = c.requires in
+    let F = firsts (read c.before.before.before.before) in record {
       labels_len = (pre.labels_len.0, omega (arith, pre.sized.1.terms, pre.sized.2), pre.labels_len.1, pre.labels_len.2, pre.labels_len.3, F.left<, F.right<);
       labelled = (pre.labelled.0, F.alike);
     }
 
 pub mark-requires-then-f-eq4 : goal.mark-requires-then-f-eq4
 mark-requires-then-f-eq4 c =
-    let m = c.before.before.before.before.before.before.before.before in
-    let r = m.before.before.before.before in
-    let pre = (start_of r).requires in
-    let F = seconds (read r) c.if-f-eq4.true in record {
+    let pre = c.requires in
+    let F = seconds (read c.before.before.before.before.before.before.before.before.before.before.before.before) c.if-f-eq4.true in record {
       labels_len = (
         pre.labels_len.0,
         omega (arith, pre.sized.1.terms, pre.sized.2),
         pre.labels_len.1,
         pre.labels_len.2,
-        omega (arith, m.mark.auto.need, pre.labels_len.3),
+        omega (arith, c.mark.auto.need, pre.labels_len.3),
         F.left<,
         F.right<,
       );
@@ -78,11 +67,9 @@ mark-requires-then-f-eq4 c =
 
 pub returns-then-f-eq4 : goal.returns-then-f-eq4
 returns-then-f-eq4 c =
-    let m = c.before.before.before.before.before.before.before.before.before.before.before in
-    argued-two (read m.before.before.before.before) c.if-f-eq4.true
-    m.mark.ensures c.mark-then-f-eq4.ensures
+    argued-two (read c.before.before.before.before.before.before.before.before.before.before.before.before.before.before.before) c.if-f-eq4.true
+    c.mark.ensures c.mark-then-f-eq4.ensures
 
 pub returns-else-f-eq4 : goal.returns-else-f-eq4
 returns-else-f-eq4 c =
-    let m = c.before.before.before.before.before in
-    argued-one (read m.before.before.before.before) c.if-f-eq4.false m.mark.ensures
+    argued-one (read c.before.before.before.before.before.before.before.before.before) c.if-f-eq4.false c.mark.ensures

@@ -5,19 +5,7 @@ use mathlib.Core.Path.{◌≡◌, refl, ◌∙◌}
 use lib.ListN.{length-set}
 use native.Mathlib.Omega.{arith}
 use Rattle.needed.proofs.Copying.{none_yet, one_more, found, walk-below}
-use Rattle.needed.proofs.find.Lts as lts
-use Rattle.needed.proofs.find.Reads as reads
-use Rattle.needed.proofs.find.Tie as tie
 use Rattle.needed.proofs.find.Goals as goal
-
-abbrev After-walk : Type 0
-After-walk = lts.After-walk tie.the-claims reads.Pre reads.Post goal.the-invariant-loop-x goal.the-decreases-loop-x
-
-abbrev Start : Type 0
-Start = lts.Start tie.the-claims reads.Pre reads.Post goal.the-invariant-loop-x goal.the-decreases-loop-x
-
-abbrev start_of : After-walk → Start
-start_of w = w.before.before.before.before.before.before.before.before.before.before
 
 pub walk-k-requires : goal.walk-k-requires
 walk-k-requires c =
@@ -29,28 +17,24 @@ walk-k-requires c =
 
 pub loop-x-init : goal.loop-x-init
 loop-x-init c =
-    let w = c.before.before.before.before in
-    let long = w.walk-k.auto.out in
-    let pre = (start_of w).requires.n_le_stride in
-    (omega arith, w.walk-k.ensures.least.few, omega arith, omega arith, simp length-set (omega arith), refl, refl, none_yet _ _ _ _ _)
+    let long = c.walk-k.auto.out in
+    let pre = c.requires.n_le_stride in
+    (omega arith, c.walk-k.ensures.least.few, omega arith, omega arith, simp length-set (omega arith), refl, refl, none_yet _ _ _ _ _)
 
 pub overflow_cast-out : goal.overflow_cast-out
 overflow_cast-out c =
-    let w = c.before.before.before.before.before.before.before in
-    omega (arith, walk-below w.walk-k.ensures.least c.loop-x.invariant.2 c.loop-x-test.true, (start_of w).requires.sound.0.few)
+    omega (arith, walk-below c.walk-k.ensures.least c.loop-x.invariant.2 c.loop-x-test.true, c.requires.sound.0.few)
 
 pub mark_bound-requires : goal.mark_bound-requires
 mark_bound-requires c =
-    let w = c.before.before.before.before.before.before.before in
     let inv = c.loop-x.invariant in
-    let pre = (start_of w).requires in
-    let e< = walk-below w.walk-k.ensures.least inv.2 c.loop-x-test.true in
+    let pre = c.requires in
+    let e< = walk-below c.walk-k.ensures.least inv.2 c.loop-x-test.true in
     (omega (arith, pre.n_le_stride), λ h. omega (arith, pre.by_index _ e< h))
 
 pub loop-x-preserved : goal.loop-x-preserved
 loop-x-preserved c =
-    let turn = c.before.before.before.before.before.before in
-    let inv = turn.loop-x.invariant in (
+    let inv = c.loop-x.invariant in (
       omega arith,
       inv.1,
       inv.2,
@@ -69,10 +53,9 @@ shape_of-walks c = c.loop-x.invariant.5 ∙ simp length-set
 
 pub returns : goal.returns
 returns c =
-    let w = c.before.before.before.before.before.before in
     let inv = c.loop-x.invariant in
-    let pre = (start_of w).requires.n_le_stride in
-    let end : c.loop-x.x ≡ w.walk-k.result = omega arith in record {
-      found = found _ _ _ _ pre.0 pre.4 inv.2 (inv.5 ∙ simp length-set) w.walk-k.ensures.least (rw end at inv.7);
-      kept = w.walk-k.ensures.kept;
+    let pre = c.requires.n_le_stride in
+    let end : c.loop-x.x ≡ c.walk-k.result = omega arith in record {
+      found = found _ _ _ _ pre.0 pre.4 inv.2 (inv.5 ∙ simp length-set) c.walk-k.ensures.least (rw end at inv.7);
+      kept = c.walk-k.ensures.kept;
     }

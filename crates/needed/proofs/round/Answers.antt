@@ -6,22 +6,19 @@ use Rattle.needed.proofs.round.Goals as goal
 
 pub find-requires : goal.find-requires
 find-requires c =
-    let start = c.before.before.before.before.before.before.before.before.before.before.before.before.before in
-    let S = start.requires.sound.0 in
-    let last = start.args.e in
-    let pre = start.requires.1 in record {
-      sound = (sound-fewer (omega arith) S, start.requires.sound.1);
+    let S = c.requires.sound.0 in
+    let last = c.args.e in
+    let pre = c.requires.1 in record {
+      sound = (sound-fewer (omega arith) S, c.requires.sound.1);
       n_le_stride = (pre.0.0, S.to< last (omega arith), S.from< last (omega arith), pre.0.1, omega arith, omega arith);
       by_index = λ b b< h. pre.1 b (omega arith) h;
     }
 
 pub mark_bound-requires : goal.mark_bound-requires
 mark_bound-requires c =
-    let f = c.before.before.before.before.before.before.before.before in
-    let start = f.before.before.before.before.before.before.before.before.before.before.before.before.before in
-    let kept = f.find.auto.need in
-    let pre = start.requires.1 in
-    (pre.0.3, λ h. omega (arith, pre.1 start.args.e (omega arith) h))
+    let kept = c.find.auto.need in
+    let pre = c.requires.1 in
+    (pre.0.3, λ h. omega (arith, pre.1 c.args.e (omega arith) h))
 
 pub returns : goal.returns
 returns c =

@@ -12,10 +12,9 @@ fields_at-record-requires c = omega (arith, terms-stated c.args.sheet.now)
 
 pub loop-i-preserved : goal.loop-i-preserved
 loop-i-preserved c =
-    let noted = c.before.before in
-    let loop = noted.loop-i in (
-      length-set noted.note_term-at.new.m loop.applied c.application_of-application.result ∙ noted.note_term-at.ensures.worked ∙ loop.invariant.0,
-      noted.note_term-at.ensures.answer,
+    let loop = c.loop-i in (
+      length-set c.note_term-at.new.m loop.applied c.application_of-application.result ∙ c.note_term-at.ensures.worked ∙ loop.invariant.0,
+      c.note_term-at.ensures.answer,
       omega arith,
       omega arith,
     )

@@ -20,9 +20,7 @@ returns-then-first-least c = record {
 
 pub overflow_add-e : goal.overflow_add-e
 overflow_add-e c =
-    let first = c.before.before.before in
-    let start = first.before.before in
-    omega (arith, digit-there start.args.s.now first.digit_at-first.ensures (omega arith))
+    omega (arith, digit-there c.args.s.now c.digit_at-first.ensures (omega arith))
 
 pub loop-d-init : goal.loop-d-init
 loop-d-init c = first-digit _ _ _ _ c.digit_at-first.ensures (omega arith) (omega arith) (omega arith) c.digit_at-d.ensures
@@ -41,15 +39,11 @@ returns-then-limit-n c = record {
 
 pub overflow_add-e-in-loop-d : goal.overflow_add-e-in-loop-d
 overflow_add-e-in-loop-d c =
-    let loop = c.before.before.before.before in
-    let start = loop.before.before.before.before.before.before in
-    omega (arith, digit-there start.args.s.now loop.loop-d.invariant.digit (omega arith))
+    omega (arith, digit-there c.args.s.now c.loop-d.invariant.digit (omega arith))
 
 pub loop-d-smaller : goal.loop-d-smaller
 loop-d-smaller c =
-    let loop = c.before.before.before.before.before in
-    let start = loop.before.before.before.before.before.before in
-    omega (arith, digit-there start.args.s.now loop.loop-d.invariant.digit (omega arith))
+    omega (arith, digit-there c.args.s.now c.loop-d.invariant.digit (omega arith))
 
 pub loop-d-preserved : goal.loop-d-preserved
 loop-d-preserved c =

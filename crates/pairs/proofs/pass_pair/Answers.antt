@@ -15,24 +15,18 @@ same_at-requires c =
 
 pub returns-then-not-same_at : goal.returns-then-not-same_at
 returns-then-not-same_at c =
-    let test = c.before.before in
-    let pre = test.requires in
-    not-joined _ pre.sized.1 _ _ pre.sized.2 pre.sized.3 _ test.same_at.ensures (not-true _ c.if-not-same_at.true-raw)
+    let pre = c.requires in
+    not-joined _ pre.sized.1 _ _ pre.sized.2 pre.sized.3 _ c.same_at.ensures (not-true _ c.if-not-same_at.true-raw)
 
 pub tie_new-requires : goal.tie_new-requires
 tie_new-requires c =
-    let counted = c.before.before.before.before in
-    let pre = counted.requires in record {
+    let pre = c.requires in record {
       d_len = (pre.d_len.0, omega (arith, pre.sized.1.terms), omega arith, omega arith);
-      table = rw counted.count_terms-n.ensures.0 pre.d_len.1;
+      table = rw c.count_terms-n.ensures.0 pre.d_len.1;
     }
 
 pub returns : goal.returns
 returns c =
-    let called = c.before.before.before in
-    let counted = called.before.before.before.before in
-    let same = counted.before in
-    let test = same.before in
-    let pre = test.requires in
-    joined _ pre.sized.1 _ _ pre.sized.2 pre.sized.3 _ (test.same_at.ensures.yes (not-false _ same.if-not-same_at.false-raw))
-    counted.count_terms-n.ensures.0 called.tie_new.ensures
+    let pre = c.requires in
+    joined _ pre.sized.1 _ _ pre.sized.2 pre.sized.3 _ (c.same_at.ensures.yes (not-false _ c.if-not-same_at.false-raw))
+    c.count_terms-n.ensures.0 c.tie_new.ensures

@@ -10,7 +10,4 @@ returns-then-tied_at c = already (c.tied_at.ensures.yes c.if-tied_at.true)
 
 pub returns : goal.returns
 returns c =
-    let tied = c.before.before.before.before in
-    let untied = tied.before.before in
-    let looked = untied.before in
-    rw c.put.ensures (tied-new (omega arith) (omega arith) (looked.tied_at.ensures.no untied.if-tied_at.false) tied.put_tie.ensures)
+    rw c.put.ensures (tied-new (omega arith) (omega arith) (c.tied_at.ensures.no c.if-tied_at.false) c.put_tie.ensures)

@@ -8,10 +8,6 @@ use Rattle.panel.proofs.decide.Goals as goal
 
 pub returns : goal.returns
 returns c =
-    let made = c.before.before.before in
-    let counted = made.before in
-    let start = c.before.before.before.before.before.before.before.before.before.before.before.before.before in
-    let test = counted.before.before.before in
     inl
-    (says-met _ _ _ (omega arith) start.requires.1 counted.count_terms.ensures.0 (omega arith, omega arith) (test.values.ensures.met (not-false _ test.if-not-values.false-raw))
-    (made.holds.ensures.length, made.holds.ensures.record))
+    (says-met _ _ _ (omega arith) c.requires.1 c.count_terms.ensures.0 (omega arith, omega arith) (c.values.ensures.met (not-false _ c.if-not-values.false-raw))
+    (c.holds.ensures.length, c.holds.ensures.written))

@@ -9,18 +9,14 @@ use Rattle.panel.proofs.judge.Goals as goal
 
 pub decide-requires : goal.decide-requires
 decide-requires c =
-    let told = c.before.before in
-    let checked = told.before.before in
-    let (sheet, room) = fine-sheet _ _ (sym checked.check.ensures ∙ ap check_says told.in-Fine.is) in
+    let (sheet, room) = fine-sheet _ _ (sym c.check.ensures ∙ ap check_says c.in-Fine.is) in
     let formed = fine-formed _ sheet in
     (formed.0, formed.1, room)
 
 pub returns-in-Refused : goal.returns-in-Refused
 returns-in-Refused c =
-    let told = c.before.before in
-    answered-refused _ _ _ _ (sym told.check.ensures ∙ ap check_says told.in-Refused.is)
+    answered-refused _ _ _ _ (sym c.check.ensures ∙ ap check_says c.in-Refused.is)
 
 pub returns-in-Fine : goal.returns-in-Fine
 returns-in-Fine c =
-    let told = c.before.before.before.before.before in
-    answered-decided _ _ _ _ _ (sym told.check.ensures ∙ ap check_says told.in-Fine.is) c.decide.ensures
+    answered-decided _ _ _ _ _ (sym c.check.ensures ∙ ap check_says c.in-Fine.is) c.decide.ensures

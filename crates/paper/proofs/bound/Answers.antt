@@ -12,8 +12,7 @@ bounds-ranks-number c = c.requires.1.earlier (omega arith)
 
 pub returns : goal.returns
 returns c =
-    let start = c.before.before in
     ⊎_elim
-    (λ w. rw w.2 (two_bytes _ _ _ _ _ _ refl refl (omega arith) (tie-bytes _ _ (omega arith) start.requires.1.known)))
+    (λ w. rw w.2 (two_bytes _ _ _ _ _ _ refl refl (omega arith) (tie-bytes _ _ (omega arith) c.requires.1.known)))
     (λ w. rw w.1 (two_bytes _ _ _ _ _ _ refl refl (omega arith) (other-bytes _ _ (omega arith))))
     c.if-name-ge-TIE.branch

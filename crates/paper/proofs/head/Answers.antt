@@ -11,19 +11,14 @@ use Rattle.paper.proofs.head.Goals as goal
 pub returns : goal.returns
 unfolding head_bytes
 returns c =
-    let third = c.before.before.before in
-    let after2 = third.before.before in
-    let second = after2.before.before in
-    let after1 = second.before.before in
-    let first = after1.before.before in
-    let long = simp length-set at second.write-2.auto.out in
+    let long = simp length-set at c.write-2.auto.out in
     then
     (then
     (then
-    (number 4 refl (omega arith) (λ k. (after1.slice_known-2-1.given k).fits) first.write.auto.out first.write.ensures)
+    (number 4 refl (omega arith) (λ k. (c.slice_known-2-1.given k).fits) c.write.auto.out c.write.ensures)
     (two_bytes _ 4 5 6 _ _ refl refl (omega arith) refl))
-    (number 8 refl (simp length-set (omega arith)) (λ k. (after2.slice_known-3-1.given k).fits) second.write-2.auto.out second.write-2.ensures))
-    (number 10 refl (omega arith) (λ k. (c.slice_known-4-1.given k).fits) third.write-3.auto.out third.write-3.ensures)
+    (number 8 refl (simp length-set (omega arith)) (λ k. (c.slice_known-3-1.given k).fits) c.write-2.auto.out c.write-2.ensures))
+    (number 10 refl (omega arith) (λ k. (c.slice_known-4-1.given k).fits) c.write-3.auto.out c.write-3.ensures)
 
 pub write-requires-3 : goal.write-requires-3
 write-requires-3 c = (omega (arith, simp length-set at c.write-2.auto.out), search rules)

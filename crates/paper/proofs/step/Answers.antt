@@ -6,6 +6,5 @@ use Rattle.paper.proofs.step.Goals as goal
 
 pub returns : goal.returns
 returns c =
-    let start = c.before.before.before.before.before.before in
     let wrote = c.write in
-    step-head _ _ _ _ _ _ _ _ _ (omega arith) (λ k. (c.slice_known-2-1.given k).fits) start.ranges.c.fits wrote.auto.out wrote.ensures
+    step-head _ _ _ _ _ _ _ _ _ (omega arith) (λ k. (c.slice_known-2-1.given k).fits) c.ranges.c.fits wrote.auto.out wrote.ensures

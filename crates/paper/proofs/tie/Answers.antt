@@ -8,23 +8,18 @@ use Rattle.paper.proofs.tie.Goals as goal
 
 pub returns-then-how-eq0 : goal.returns-then-how-eq0
 returns-then-how-eq0 c =
-    let way = c.before.before.before.before.before in
-    let how = way.before in
-    by-functions _ _ (omega (arith, how.how.ensures, way.if-how-eq0.true)) how.left-a.ensures how.right-b.ensures
+    by-functions _ _ (omega (arith, c.how.ensures, c.if-how-eq0.true)) c.left-a.ensures c.right-b.ensures
     c.step.ensures
 
 pub by_walks-requires : goal.by_walks-requires
 by_walks-requires c =
-    let start = c.before.before.before.before.before.before.before.before.before.before in
-    let far = start.requires.step_length_in_bounds.2 in
-    let (there, back) = start.requires.readable (omega (arith, c.how.ensures, c.if-how-eq0.false)) in
+    let far = c.requires.step_length_in_bounds.2 in
+    let (there, back) = c.requires.readable (omega (arith, c.how.ensures, c.if-how-eq0.false)) in
     (search rules, more-ties far there, more-ties far back)
 
 pub returns : goal.returns
 returns c =
-    let way = c.before.before.before.before.before in
-    let how = way.before in
     let wrote = c.by_walks.ensures in record {
-      step = by-walks _ _ (omega (arith, how.how.ensures, way.if-how-eq0.false)) how.left-a.ensures how.right-b.ensures wrote.step;
+      step = by-walks _ _ (omega (arith, c.how.ensures, c.if-how-eq0.false)) c.left-a.ensures c.right-b.ensures wrote.step;
       short = wrote.short;
     }

@@ -22,24 +22,17 @@ insert-requires-in-Less c =
 
 pub returns-in-Equal : goal.returns-in-Equal
 returns-in-Equal c =
-    let called = c.before.before.before in
-    rw called.in-Equal.is (changed (λ D v q. record { tied = q }) (λ d h. h) called.put_tie.ensures)
+    rw c.in-Equal.is (changed (λ D v q. record { tied = q }) (λ d h. h) c.put_tie.ensures)
 
 pub returns-in-Unequal : goal.returns-in-Unequal
 returns-in-Unequal c = rw c.in-Unequal.is (stayed c.requires.table tt)
 
 pub returns-in-AtMost : goal.returns-in-AtMost
 returns-in-AtMost c =
-    let called = c.before.before.before in
-    let told = called.before.before.before in
-    let start = told.before.before.before.before.before in
-    rw told.in-AtMost.is
-    (at-most-put _ start.requires.d_len.2 start.requires.d_len.3 start.requires.table called.to.ensures called.insert.ensures)
+    rw c.in-AtMost.is
+    (at-most-put _ c.requires.d_len.2 c.requires.d_len.3 c.requires.table c.to.ensures c.insert.ensures)
 
 pub returns-in-Less : goal.returns-in-Less
 returns-in-Less c =
-    let called = c.before.before.before in
-    let told = called.before.before.before in
-    let start = told.before.before.before.before.before in
-    rw told.in-Less.is
-    (less-put _ start.requires.d_len.2 start.requires.d_len.3 start.requires.table called.under.ensures called.insert-in-Less.ensures)
+    rw c.in-Less.is
+    (less-put _ c.requires.d_len.2 c.requires.d_len.3 c.requires.table c.under.ensures c.insert-in-Less.ensures)

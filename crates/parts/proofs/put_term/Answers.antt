@@ -45,23 +45,19 @@ free (Apply2 s a b) k T = stayed T tt
 
 pub put_tie-requires-in-Shift : goal.put_tie-requires-in-Shift
 put_tie-requires-in-Shift c =
-    let known = c.before.before.before.before in
-    let start = known.before.before.before.before in
-    let below = shifted (rw known.in-Shift.is at start.requires.d_len.3) in record {
+    let below = shifted (rw c.in-Shift.is at c.requires.d_len.3) in record {
       d_len = omega (arith, below);
-      table = start.requires.table;
+      table = c.requires.table;
     }
 
 pub returns-in-Number : goal.returns-in-Number
 returns-in-Number c =
-    let called = c.before.before.before in
-    rw called.in-Number.is (changed (λ D v q. number-tied q) (λ d h. h) called.put_tie.ensures)
+    rw c.in-Number.is (changed (λ D v q. number-tied q) (λ d h. h) c.put_tie.ensures)
 
 pub returns-in-Shift : goal.returns-in-Shift
 returns-in-Shift c =
-    let called = c.before.before.before in
-    rw called.in-Shift.is
-    (changed (λ D v q. record { tied = q.defined }) (λ d h. h) called.put_tie-in-Shift.ensures)
+    rw c.in-Shift.is
+    (changed (λ D v q. record { tied = q.defined }) (λ d h. h) c.put_tie-in-Shift.ensures)
 
 pub returns-in_default : goal.returns-in_default
 returns-in_default c = free c.args.t c.in_default.in_default-own.keys3 c.requires.table

@@ -13,42 +13,33 @@ use Rattle.passes.proofs.pass.Goals as goal
 
 pub loop-i-init : goal.loop-i-init
 loop-i-init c =
-    let start = c.before.before.before.before in
-    (omega arith, c.count_terms-t.ensures.0, refl, refl, ascending-none _, same start.requires.d_len.1 no-terms)
+    (omega arith, c.count_terms-t.ensures.0, refl, refl, ascending-none _, same c.requires.d_len.1 no-terms)
 
 pub pass_term-requires : goal.pass_term-requires
-pass_term-requires c =
-    let turn = c.before.before.before.before in
-    let start = turn.before.before.before.before in record {
-      sized = (start.requires.sized.0, start.requires.sized.1, omega arith);
-      keys_len = (turn.loop-i.invariant.3, turn.loop-i.invariant.4);
-      d_len = (omega arith, sofar-table _ turn.loop-i.invariant.5);
-    }
+pass_term-requires c = record {
+  sized = (c.requires.sized.0, c.requires.sized.1, omega arith);
+  keys_len = (c.loop-i.invariant.3, c.loop-i.invariant.4);
+  d_len = (omega arith, sofar-table _ c.loop-i.invariant.5);
+}
 
 pub returns-in-Clash : goal.returns-in-Clash
 returns-in-Clash c =
-    let called = c.before.before.before.before.before.before in
-    let turn = called.before.before.before.before in
-    clash-after _ turn.loop-i.invariant.5 (rw c.in-Clash.is at called.pass_term.ensures.passing)
+    clash-after _ c.loop-i.invariant.5 (rw c.in-Clash.is at c.pass_term.ensures.passing)
 
 pub loop-i-preserved : goal.loop-i-preserved
 loop-i-preserved c =
-    let called = c.before.before.before.before.before in
-    let turn = called.before.before.before.before in
-    let K = called.pass_term.ensures.put in (
+    let K = c.pass_term.ensures.put in (
       omega arith,
-      turn.loop-i.invariant.1,
+      c.loop-i.invariant.1,
       omega arith,
       omega arith,
-      ascending-more K.put turn.loop-i.invariant.4,
-      ⊎_elim (λ w. rw w.2 (more-new _ turn.loop-i.invariant.5 (rw w.1.given.1 at called.pass_term.ensures.passing)))
-          (λ w. rw w.2 (more-still _ (one-term K) turn.loop-i.invariant.5 (rw w.1.given.1 at called.pass_term.ensures.passing)))
+      ascending-more K.put c.loop-i.invariant.4,
+      ⊎_elim (λ w. rw w.2 (more-new _ c.loop-i.invariant.5 (rw w.1.given.1 at c.pass_term.ensures.passing)))
+          (λ w. rw w.2 (more-still _ (one-term K) c.loop-i.invariant.5 (rw w.1.given.1 at c.pass_term.ensures.passing)))
           c.match-pass_term.branch,
     )
 
 pub returns : goal.returns
 returns c =
-    let turn = c.before.before.before in
-    let start = turn.before.before.before.before in
-    let end : turn.loop-i.i ≡ count_terms (sheet_of start.args.sheet.now) = omega arith in
-    rw c.answered.ensures (ended _ (λ e A. A.rows) (rw end at turn.loop-i.invariant.5))
+    let end : c.loop-i.i ≡ count_terms (sheet_of c.args.sheet.now) = omega arith in
+    rw c.answered.ensures (ended _ (λ e A. A.rows) (rw end at c.loop-i.invariant.5))

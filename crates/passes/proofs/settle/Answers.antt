@@ -19,18 +19,15 @@ pass-requires c =
 
 pub returns-in-Clash : goal.returns-in-Clash
 returns-in-Clash c =
-    let called = c.before.before.before.before.before in
-    clashes _ called.loop.invariant.1 (rw c.in-Clash.is at called.pass.ensures)
+    clashes _ c.loop.invariant.1 (rw c.in-Clash.is at c.pass.ensures)
 
 pub loop-smaller : goal.loop-smaller
 loop-smaller c = lower _ (rw c.in-New.is at c.pass.ensures)
 
 pub loop-preserved : goal.loop-preserved
 loop-preserved c =
-    let called = c.before.before.before.before.before in
-    (omega arith, goes_on _ called.loop.invariant.1 (rw c.in-New.is at called.pass.ensures))
+    (omega arith, goes_on _ c.loop.invariant.1 (rw c.in-New.is at c.pass.ensures))
 
 pub returns-in-Still : goal.returns-in-Still
 returns-in-Still c =
-    let called = c.before.before.before.before.before in
-    ended _ called.loop.invariant.1 (rw c.in-Still.is at called.pass.ensures)
+    ended _ c.loop.invariant.1 (rw c.in-Still.is at c.pass.ensures)

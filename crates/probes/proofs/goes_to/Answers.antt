@@ -9,16 +9,13 @@ pub returns-then-zero-count : goal.returns-then-zero-count
 returns-then-zero-count c = refuted (λ G. let l = G.few in omega arith)
 
 pub walk-requires : goal.walk-requires
-walk-requires c = let start = c.before.before.before.before in (start.requires.0, omega arith)
+walk-requires c = (c.requires.0, omega arith)
 
 pub returns-in-Nowhere : goal.returns-in-Nowhere
 returns-in-Nowhere c =
-    let walk = c.before.before.before in
-    let says = rw c.in-Nowhere.is at walk.walk.ensures in
+    let says = rw c.in-Nowhere.is at c.walk.ensures in
     refuted (λ G. says _ G.goes)
 
 pub returns-in-To : goal.returns-in-To
 returns-in-To c =
-    let end = c.before.before.before.before.before in
-    let walk = end.before.before in
-    goes-here (omega arith) (rw end.in-To.is at walk.walk.ensures)
+    goes-here (omega arith) (rw c.in-To.is at c.walk.ensures)

@@ -9,6 +9,4 @@ returns-in-Apart c = at_none (rw c.in-Apart.is at c.between.ensures)
 
 pub returns-in-Tied : goal.returns-in-Tied
 returns-in-Tied c =
-    let answer = c.before.before.before.before in
-    let start = answer.before.before in
-    at_gap _ start.args.i start.args.j start.args.gap _ (rw c.in-Tied.is at answer.between.ensures)
+    at_gap _ c.args.i c.args.j c.args.gap _ (rw c.in-Tied.is at c.between.ensures)

@@ -11,6 +11,5 @@ fields_at-requires c = let b = c.args.sheet.now in omega (arith, terms-stated b,
 
 pub returns : goal.returns
 returns c =
-    let start = c.before.before.before.before.before.before in
-    let stated = terms-stated start.args.sheet.now in
-    c.entry_of.ensures ∙ ap decode_entry (c.fields_at.ensures ∙ ap (fields_at _) (omega arith)) ∙ sym (entry-decoded _ _ start.requires.1)
+    let stated = terms-stated c.args.sheet.now in
+    c.entry_of.ensures ∙ ap decode_entry (c.fields_at.ensures ∙ ap (fields_at _) (omega arith)) ∙ sym (entry-decoded _ _ c.requires.1)

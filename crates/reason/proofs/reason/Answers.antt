@@ -9,16 +9,12 @@ use Rattle.reason.proofs.reason.Goals as goal
 
 pub tell-requires : goal.tell-requires
 tell-requires c =
-    let told = c.before.before in
-    let checked = told.before.before in
-    fine-formed _ (fine-sheet _ _ (sym checked.check.ensures ∙ ap check_says told.in-Fine.is)).0
+    fine-formed _ (fine-sheet _ _ (sym c.check.ensures ∙ ap check_says c.in-Fine.is)).0
 
 pub returns-in-Refused : goal.returns-in-Refused
 returns-in-Refused c =
-    let told = c.before.before in
-    reasoned-refused _ _ _ _ (sym told.check.ensures ∙ ap check_says told.in-Refused.is)
+    reasoned-refused _ _ _ _ (sym c.check.ensures ∙ ap check_says c.in-Refused.is)
 
 pub returns-in-Fine : goal.returns-in-Fine
 returns-in-Fine c =
-    let told = c.before.before.before.before.before in
-    reasoned-told _ _ _ _ _ (sym told.check.ensures ∙ ap check_says told.in-Fine.is) c.tell.ensures
+    reasoned-told _ _ _ _ _ (sym c.check.ensures ∙ ap check_says c.in-Fine.is) c.tell.ensures

@@ -8,12 +8,10 @@ use Rattle.recited.proofs.check_few.Goals as goal
 
 pub slice_bounds-check-end : goal.slice_bounds-check-end
 slice_bounds-check-end c =
-    let read = c.before.before in
-    let P = read.requires in
-    sym (length-take-le _ _ (omega (arith, read.first_few-steps.ensures.size, P.1)))
+    let P = c.requires in
+    sym (length-take-le _ _ (omega (arith, c.first_few-steps.ensures.size, P.1)))
 
 pub returns : goal.returns
 returns c =
-    let read = c.before.before.before in
-    let P = read.requires in
-    recited-first read.first_few-steps.ensures P.0 P.1 c.check.ensures
+    let P = c.requires in
+    recited-first c.first_few-steps.ensures P.0 P.1 c.check.ensures

@@ -8,12 +8,10 @@ use Rattle.recited.proofs.check_many.Goals as goal
 
 pub slice_bounds-check-end : goal.slice_bounds-check-end
 slice_bounds-check-end c =
-    let read = c.before.before in
-    let P = read.requires in
-    sym (length-take-le _ _ (omega (arith, read.first_many-steps.ensures.size, P.few)))
+    let P = c.requires in
+    sym (length-take-le _ _ (omega (arith, c.first_many-steps.ensures.size, P.few)))
 
 pub returns : goal.returns
 returns c =
-    let read = c.before.before.before in
-    let P = read.requires in
-    recited-first read.first_many-steps.ensures P P.few c.check.ensures
+    let P = c.requires in
+    recited-first c.first_many-steps.ensures P P.few c.check.ensures

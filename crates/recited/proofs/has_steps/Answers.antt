@@ -35,8 +35,7 @@ pub bounds-record-at : goal.bounds-record-at
 bounds-record-at c = omega (arith, (is_whole c.before.before).head)
 
 adds : (c : Joined2) →
-    let at-loop = c.before.before.before.before.before in
-    Adds at-loop.args.«record».now at-loop.loop-left.at at-loop.loop-left.found c.if-record-at-lt2.found
+    Adds c.args.«record».now c.loop-left.at c.loop-left.found c.if-record-at-lt2.found
 adds c =
     record {
       tie = λ b. ⊎_elim (λ w. omega arith) (λ w. omega arith) c.if-record-at-lt2.branch;
@@ -45,9 +44,7 @@ adds c =
 
 pub loop-left-preserved : goal.loop-left-preserved
 loop-left-preserved c =
-    let else = c.before.before.before.before in
-    let in-loop = else.before.before in
-    one-passed in-loop.loop-left.invariant in-loop.loop-left-test.true (is_whole else) c.end-at.ensures (adds c.before.before)
+    one-passed c.loop-left.invariant c.loop-left-test.true (is_whole c.before.before.before.before) c.end-at.ensures (adds c.before.before)
 
 pub returns-then-at-record : goal.returns-then-at-record
 returns-then-at-record c =

@@ -21,9 +21,5 @@ returns-then-record-first c = refuted λ R. omega (arith, steps-within R.steps, 
 
 pub returns : goal.returns
 returns c =
-    let ask = c.before.before in
-    let else4 = ask.before.before in
-    let else3 = else4.before.before in
-    let read = else3.before.before.before in
-    record-tells read.args.«record».now c.has_steps.result (omega arith) (omega arith)
-    (eqb-true _ _ (not-false _ else3.if-record-ne1.false-raw)) else4.list_end-first.ensures ask.read-2.ensures.0 c.has_steps.ensures
+    record-tells c.args.«record».now c.has_steps.result (omega arith) (omega arith)
+    (eqb-true _ _ (not-false _ c.if-record-ne1.false-raw)) c.list_end-first.ensures c.read-2.ensures.0 c.has_steps.ensures

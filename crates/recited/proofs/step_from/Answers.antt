@@ -17,8 +17,7 @@ returns-then-whole c = record { whole = λ W. c.IsWhole-from.ensures; cut = λ w
 
 pub returns-else-whole : goal.returns-else-whole
 returns-else-whole c =
-    let tested = c.before.before.before in
     record {
-      whole = λ W. absurd (tested.whole.ensures.no c.if-whole.false W);
+      whole = λ W. absurd (c.whole.ensures.no c.if-whole.false W);
       cut = λ w. c.blank.ensures;
     }

@@ -73,11 +73,8 @@ bounds-sheet-3 c = omega (arith, six c.before.before.before.before.before.before
 
 pub returns-then-i-sheet : goal.returns-then-i-sheet
 returns-then-i-sheet c =
-    let looked = c.before.before.before.before in
-    let shaped = looked.before in
-    let versioned = shaped.before.before in
     refused-already _ _ 13 _
-    (row13 _ (not10 versioned.before.before) (not11 versioned) (not12 shaped) _ looked.wrong_term-i.ensures c.if-i-sheet.true)
+    (row13 _ (not10 c.before.before.before.before.before.before.before.before.before) (not11 c.before.before.before.before.before.before.before) (not12 c.before.before.before.before.before) _ c.wrong_term-i.ensures c.if-i-sheet.true)
 
 pub wrong_entry-e-requires : goal.wrong_entry-e-requires
 wrong_entry-e-requires c = sized c.before.before.before.before.before
@@ -87,23 +84,14 @@ bounds-sheet-4 c = omega (arith, six c.before.before.before.before.before.before
 
 pub returns-then-e-sheet : goal.returns-then-e-sheet
 returns-then-e-sheet c =
-    let formed = c.before.before.before.before.before in
-    let looked = formed.before.before.before in
-    let shaped = looked.before in
-    let versioned = shaped.before.before in
     refused-already _ _ 14 _
-    (row14 _ (not10 versioned.before.before) (not11 versioned) (not12 shaped) _ looked.wrong_term-i.ensures formed.if-i-sheet.false
+    (row14 _ (not10 c.before.before.before.before.before.before.before.before.before.before.before.before.before) (not11 c.before.before.before.before.before.before.before.before.before.before.before) (not12 c.before.before.before.before.before.before.before.before.before) _ c.wrong_term-i.ensures c.if-i-sheet.false
     _ c.wrong_entry-e.ensures c.if-e-sheet.true)
 
 -- no row but the last applies
-no_other : (c : Else5) → let formed = c.before.before.before.before in
-    fine ≡ sheet_refusal formed.args.sheet.now
+no_other : (c : Else5) → fine ≡ sheet_refusal c.args.sheet.now
 no_other c =
-    let formed = c.before.before.before.before in
-    let looked = formed.before.before.before in
-    let shaped = looked.before in
-    let versioned = shaped.before.before in
-    no_row _ (not10 versioned.before.before) (not11 versioned) (not12 shaped) _ looked.wrong_term-i.ensures formed.if-i-sheet.false
+    no_row _ (not10 c.before.before.before.before.before.before.before.before.before.before.before.before) (not11 c.before.before.before.before.before.before.before.before.before.before) (not12 c.before.before.before.before.before.before.before.before) _ c.wrong_term-i.ensures c.if-i-sheet.false
     _ c.wrong_entry-e.ensures c.if-e-sheet.false
 
 pub returns-then-room-lt-ROOM_NEEDED : goal.returns-then-room-lt-ROOM_NEEDED

@@ -6,13 +6,11 @@ use Rattle.roots.proofs.key_at.Goals as goal
 
 pub key_of-requires : goal.key_of-requires
 key_of-requires c =
-    let counted = c.before.before in
-    let start = counted.before.before.before in
-    let wf = start.requires.sized.1 in (
-      start.requires.d_len.0,
+    let wf = c.requires.sized.1 in (
+      c.requires.d_len.0,
       omega (arith, wf.terms),
-      rw counted.count_terms-n.ensures.0 start.requires.d_len.1,
-      rw c.term_at.ensures (arguments-wider (omega arith) (wf.arguments start.args.i.0 (omega arith))),
+      rw c.count_terms-n.ensures.0 c.requires.d_len.1,
+      rw c.term_at.ensures (arguments-wider (omega arith) (wf.arguments c.args.i.0 (omega arith))),
     )
 
 pub returns : goal.returns

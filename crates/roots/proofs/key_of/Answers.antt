@@ -9,35 +9,30 @@ use Rattle.roots.proofs.key_of.Goals as goal
 
 pub root_of-requires : goal.root_of-requires
 root_of-requires c =
-    let known = c.before.before.before.before in
-    let pre = known.requires in
-    (pre.0, pre.1, pre.2, argument (rw known.in-Apply.is at pre.3))
+    let pre = c.requires in
+    (pre.0, pre.1, pre.2, argument (rw c.in-Apply.is at pre.3))
 
 pub root_of-requires-in-Apply2 : goal.root_of-requires-in-Apply2
 root_of-requires-in-Apply2 c =
-    let known = c.before.before.before.before in
-    let pre = known.requires in
-    (pre.0, pre.1, pre.2, (arguments (rw known.in-Apply2.is at pre.3)).0)
+    let pre = c.requires in
+    (pre.0, pre.1, pre.2, (arguments (rw c.in-Apply2.is at pre.3)).0)
 
 pub root_of-requires-in-Apply2-2 : goal.root_of-requires-in-Apply2-2
 root_of-requires-in-Apply2-2 c =
-    let known = c.before.before.before.before.before.before in
-    let pre = known.requires in
-    (pre.0, pre.1, pre.2, (arguments (rw known.in-Apply2.is at pre.3)).1)
+    let pre = c.requires in
+    (pre.0, pre.1, pre.2, (arguments (rw c.in-Apply2.is at pre.3)).1)
 
 pub returns-in-Apply : goal.returns-in-Apply
 returns-in-Apply c =
-    let known = c.before.before.before.before.before in
-    let pre = known.requires in
+    let pre = c.requires in
     let root = c.root_of.ensures in
-    rw known.in-Apply.is (for-apply root refl, omega (arith, root.within))
+    rw c.in-Apply.is (for-apply root refl, omega (arith, root.within))
 
 pub returns-in-Apply2 : goal.returns-in-Apply2
 returns-in-Apply2 c =
-    let known = c.before.before.before.before.before.before.before in
     let first = c.root_of-in-Apply2.ensures in
     let second = c.root_of-in-Apply2-2.ensures in
-    rw known.in-Apply2.is (for-apply2 first second refl, omega (arith, first.within, second.within))
+    rw c.in-Apply2.is (for-apply2 first second refl, omega (arith, first.within, second.within))
 
 pub returns-in_default : goal.returns-in_default
 returns-in_default c = no-input _ c.args.t c.in_default.in_default-own.keys3

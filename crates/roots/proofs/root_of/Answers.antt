@@ -12,19 +12,13 @@ loop-r-init c = (omega arith, λ p l. absurd (omega arith))
 
 pub returns-then-tied_at : goal.returns-then-tied_at
 returns-then-tied_at c =
-    let found = c.before.before in
-    let turn = found.before.before in
-    record { within = omega arith; tied = found.tied_at.ensures.yes c.if-tied_at.true; lowest = turn.loop-r.invariant.1 }
+    record { within = omega arith; tied = c.tied_at.ensures.yes c.if-tied_at.true; lowest = c.loop-r.invariant.1 }
 
 pub loop-r-preserved : goal.loop-r-preserved
 loop-r-preserved c =
-    let looked = c.before.before in
-    let turn = looked.before.before in
-    (omega arith, below_more _ _ turn.loop-r.invariant.1 (looked.tied_at.ensures.no c.if-tied_at.false))
+    (omega arith, below_more _ _ c.loop-r.invariant.1 (c.tied_at.ensures.no c.if-tied_at.false))
 
 pub returns : goal.returns
 returns c =
-    let turn = c.before.before in
-    let start = turn.before.before in
-    let end : turn.loop-r.r ≡ start.args.a = omega arith in
-    rw end (record { within = omega arith; tied = tied-self start.requires.2 start.requires.3; lowest = rw end at turn.loop-r.invariant.1 })
+    let end : c.loop-r.r ≡ c.args.a = omega arith in
+    rw end (record { within = omega arith; tied = tied-self c.requires.2 c.requires.3; lowest = rw end at c.loop-r.invariant.1 })

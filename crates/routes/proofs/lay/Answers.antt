@@ -7,14 +7,13 @@ use Rattle.routes.proofs.lay.Goals as goal
 
 pub returns : goal.returns
 returns c =
-    let laid = c.before.before.before.before in
-    let found = laid.between-path in
+    let found = c.between-path in
     record {
-      path = laid.difference.result;
+      path = c.difference.result;
       is = c.put.ensures;
       own = λ u. (
         has found.result u,
         found.ensures u,
-        laid.difference.ensures u ∙ ap (λ (own : Bool). xor own (has found.result u)) (laid.only.ensures u),
+        c.difference.ensures u ∙ ap (λ (own : Bool). xor own (has found.result u)) (c.only.ensures u),
       );
     }

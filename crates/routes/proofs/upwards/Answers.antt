@@ -11,13 +11,11 @@ loop-odd-init c = climbs-begin (omega arith) c.none-odd.ensures
 
 pub loop-odd-smaller : goal.loop-odd-smaller
 loop-odd-smaller c =
-    let turn = c.before.before.before.before.before.before.before.before in
-    climbs-higher turn.loop-odd.invariant (omega arith) c.up.ensures turn.requires.1
+    climbs-higher c.loop-odd.invariant (omega arith) c.up.ensures c.requires.1
 
 pub loop-odd-preserved : goal.loop-odd-preserved
 loop-odd-preserved c =
-    let read = c.before.before.before.before in
-    climbs-on read.loop-odd.invariant (omega arith) c.up.ensures read.by-in-loop-odd.ensures read.at.ensures
+    climbs-on c.loop-odd.invariant (omega arith) c.up.ensures c.by-in-loop-odd.ensures c.at.ensures
     c.difference-odd.ensures
 
 pub returns : goal.returns

@@ -8,15 +8,13 @@ use Rattle.rules.proofs.defined.Goals as goal
 
 pub bounds-v-a : goal.bounds-v-a
 bounds-v-a c =
-    let known = c.before.before.before.before in
-    let pre = known.requires in
-    omega (arith, shifted (rw known.in-Shift.is at pre.3), pre.0.enough)
+    let pre = c.requires in
+    omega (arith, shifted (rw c.in-Shift.is at pre.3), pre.0.enough)
 
 pub related-requires-in-Shift : goal.related-requires-in-Shift
 related-requires-in-Shift c =
-    let known = c.before.before.before.before in
-    let pre = known.requires in
-    (pre.2, level-low _ pre.0 (shifted (rw known.in-Shift.is at pre.3)), pre.1)
+    let pre = c.requires in
+    (pre.2, level-low _ pre.0 (shifted (rw c.in-Shift.is at pre.3)), pre.1)
 
 pub returns-in-Number : goal.returns-in-Number
 returns-in-Number c = rw c.in-Number.is (value-number _ _ _ _ c.related.ensures)

@@ -15,10 +15,10 @@ place : (c : Else1) → c.args.from + count_trailing_zeros 64 (c.args.word / 2 ^
 place c = place-small c.args.from (omega arith) (omega arith)
 
 pub overflow_cast-result : goal.overflow_cast-result
-overflow_cast-result c = record { fits = omega (arith, place c.before) }
+overflow_cast-result c = record { fits = omega (arith, place c) }
 
 pub overflow_add-result : goal.overflow_add-result
-overflow_add-result c = record { fits = omega (arith, place c.before) }
+overflow_add-result c = record { fits = omega (arith, place c) }
 
 pub returns-then-rest-eq0 : goal.returns-then-rest-eq0
 returns-then-rest-eq0 c = bit-none (omega arith) (omega arith)

@@ -16,6 +16,5 @@ loop-j-preserved c =
 
 pub returns : goal.returns
 returns c =
-    let loop = c.before.before in
-    let e : loop.loop-j.j ≡ loop.args.k = omega arith in
-    rw e at loop.loop-j.invariant.1
+    let e : c.loop-j.j ≡ c.args.k = omega arith in
+    rw e at c.loop-j.invariant.1

@@ -9,26 +9,21 @@ use Rattle.shelves.proofs.row.Goals as goal
 
 pub returns-then-shelves-shelf : goal.returns-then-shelves-shelf
 returns-then-shelves-shelf c =
-    let test = c.before.before.before in
-    let named = test.before.before in
-    let start = named.before.before in
-    let args = start.args in
-    let (taken, some) = both (get_or args.shelves.now named.shelf_of-shelf.result false) args.first test.if-shelves-shelf.true in
-    let new = first-new args.keys.now args.first args.second start.requires.0 start.requires.2 in
-    let S = shelved-stored args.first args.second start.requires.0 start.requires.4 in record {
+    let args = c.args in
+    let (taken, some) = both (get_or args.shelves.now c.shelf_of-shelf.result false) args.first c.if-shelves-shelf.true in
+    let new = first-new args.keys.now args.first args.second c.requires.0 c.requires.2 in
+    let S = shelved-stored args.first args.second c.requires.0 c.requires.4 in record {
       agrees = row-compared some c.compare.ensures;
       stored = refl;
-      shelved = (start.requires.3, shelved-full new S (rw named.shelf_of-shelf.ensures.0 at taken));
+      shelved = (c.requires.3, shelved-full new S (rw c.shelf_of-shelf.ensures.0 at taken));
     }
 
 pub returns-else-shelves-shelf : goal.returns-else-shelves-shelf
 returns-else-shelves-shelf c =
-    let named = c.before.before.before in
-    let start = named.before.before in
-    let args = start.args in
-    let new = first-new args.keys.now args.first args.second start.requires.0 start.requires.2 in
-    let S = shelved-stored args.first args.second start.requires.0 start.requires.4 in record {
-      agrees = row-alone S (λ p. rw named.shelf_of-shelf.ensures.0 at (empty (get_or args.shelves.now named.shelf_of-shelf.result false) args.first c.if-shelves-shelf.false p));
+    let args = c.args in
+    let new = first-new args.keys.now args.first args.second c.requires.0 c.requires.2 in
+    let S = shelved-stored args.first args.second c.requires.0 c.requires.4 in record {
+      agrees = row-alone S (λ p. rw c.shelf_of-shelf.ensures.0 at (empty (get_or args.shelves.now c.shelf_of-shelf.result false) args.first c.if-shelves-shelf.false p));
       stored = refl;
-      shelved = (simp length-set start.requires.3, shelved-put new S named.shelf_of-shelf.ensures.0 (omega arith));
+      shelved = (simp length-set c.requires.3, shelved-put new S c.shelf_of-shelf.ensures.0 (omega arith));
     }

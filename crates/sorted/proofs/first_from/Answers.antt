@@ -23,11 +23,10 @@ loop-place-preserved c =
 
 pub returns-else-least-keys : goal.returns-else-least-keys
 returns-else-least-keys c =
-    let turn = c.before.before.before.before in
     record {
-      within = turn.loop-place.invariant.0;
-      below = all-below turn.requires.1 turn.loop-place.invariant.0 (leb-false _ _ c.if-least-keys.false-raw);
-      from = turn.loop-place.invariant.1;
+      within = c.loop-place.invariant.0;
+      below = all-below c.requires.1 c.loop-place.invariant.0 (leb-false _ _ c.if-least-keys.false-raw);
+      from = c.loop-place.invariant.1;
     }
 
 pub returns-after-loop-place : goal.returns-after-loop-place

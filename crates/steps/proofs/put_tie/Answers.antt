@@ -13,25 +13,19 @@ insert-requires c =
     }
 
 pub insert-requires-then-insert : goal.insert-requires-then-insert
-insert-requires-then-insert c =
-    let going = c.before.before.before in
-    let called = going.before.before.before in record {
-      d_len = omega arith;
-      g_lt_none = (c.back.ensures.there, c.back.ensures.near);
-      table = (called.insert.ensures.put going.if-insert.true).table;
-    }
+insert-requires-then-insert c = record {
+  d_len = omega arith;
+  g_lt_none = (c.back.ensures.there, c.back.ensures.near);
+  table = (c.insert.ensures.put c.if-insert.true).table;
+}
 
 pub returns-then-insert : goal.returns-then-insert
 returns-then-insert c =
-    let second = c.before.before.before in
-    let going = second.before.before.before in
-    let first = going.before.before.before in
-    let pre = first.requires in
-    tie-put _ pre.d_len.2 pre.d_len.3 pre.table first.to.ensures first.insert.ensures going.if-insert.true
-    second.back.ensures second.insert-then-insert.ensures
+    let pre = c.requires in
+    tie-put _ pre.d_len.2 pre.d_len.3 pre.table c.to.ensures c.insert.ensures c.if-insert.true
+    c.back.ensures c.insert-then-insert.ensures
 
 pub returns-else-insert : goal.returns-else-insert
 returns-else-insert c =
-    let called = c.before.before.before.before in
-    let pre = called.requires in
-    tie-refused _ pre.d_len.2 pre.d_len.3 pre.table called.to.ensures called.insert.ensures c.if-insert.false
+    let pre = c.requires in
+    tie-refused _ pre.d_len.2 pre.d_len.3 pre.table c.to.ensures c.insert.ensures c.if-insert.false

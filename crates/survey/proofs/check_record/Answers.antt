@@ -17,9 +17,6 @@ use Rattle.survey.proofs.check_record.Goals as goal
 abbrev After-list_end : Type 0
 After-list_end = lts.After-list_end tie.the-claims reads.Pre reads.Post
 
-abbrev Start : Type 0
-Start = lts.Start tie.the-claims reads.Pre reads.Post
-
 module _ (r : List ℕ) (k : ℕ) (e : k ≡ list_end r) where
   list-part : take (k - head_length) (drop head_length r) ≡ take (big_of r 6 2) (drop head_length r)
   list-part = let n : k - head_length ≡ big_of r 6 2 = omega arith in rw n
@@ -27,15 +24,11 @@ module _ (r : List ℕ) (k : ℕ) (e : k ≡ list_end r) where
   steps-part : take (length r - k) (drop k r) ≡ drop (list_end r) r
   steps-part = take_all (length r - k) (drop k r) (simp length-drop (omega arith)) ∙ ap (λ (n : ℕ). drop n r) e
 
-abbrev begun : After-list_end → Start
-begun c = c.before.before.before
-
-within : (c : After-list_end) → c.list_end-k.result ≤ length (begun c).args.«record».now
-within c = omega (arith, c.list_end-k.ensures, steps-within (begun c).requires.steps)
+within : (c : After-list_end) → c.list_end-k.result ≤ length c.args.«record».now
+within c = omega (arith, c.list_end-k.ensures, steps-within c.requires.steps)
 
 pub returns : goal.returns
 returns c =
-    let asked = c.before.before.before.before in
-    let r = (begun asked).args.«record».now in
-    let e = asked.list_end-k.ensures in
+    let r = c.args.«record».now in
+    let e = c.list_end-k.ensures in
     record { recited = rw (list-part r _ e, steps-part r _ e) at c.check.ensures }

@@ -17,39 +17,24 @@ use Rattle.surveyor.proofs.go_through.Reads as reads
 use Rattle.surveyor.proofs.go_through.Tie as tie
 use Rattle.surveyor.proofs.go_through.Goals as goal
 
-abbrev At-loop : Type 0
-At-loop = lts.At-loop tie.the-claims reads.Pre reads.Post goal.the-invariant-loop-n goal.the-decreases-loop-n
-
-abbrev Start : Type 0
-Start = lts.Start tie.the-claims reads.Pre reads.Post goal.the-invariant-loop-n goal.the-decreases-loop-n
-
 abbrev After-ruling_on : Type 0
 After-ruling_on = lts.After-ruling_on tie.the-claims reads.Pre reads.Post goal.the-invariant-loop-n goal.the-decreases-loop-n
 
-abbrev After-step_at : Type 0
-After-step_at = lts.After-step_at tie.the-claims reads.Pre reads.Post goal.the-invariant-loop-n goal.the-decreases-loop-n
+abbrev At-loop : Type 0
+At-loop = lts.At-loop tie.the-claims reads.Pre reads.Post goal.the-invariant-loop-n goal.the-decreases-loop-n
 
 abbrev After-enum_told3 : Type 0
 After-enum_told3 = lts.After-enum_told3 tie.the-claims reads.Pre reads.Post goal.the-invariant-loop-n goal.the-decreases-loop-n
 
-abbrev start_of : At-loop → Start
-start_of c = c.before.before.before.before.before
+there : (c : After-ruling_on) → c.loop-n.n < length c.args.steps.now
+there c = omega (arith, c.loop-n-test.true, c.count-count.ensures)
 
-abbrev loop-of : After-ruling_on → At-loop
-loop-of c = c.before.before.before.before.before
+same_size : (c : At-loop) → length c.loop-n.legs ≡ length c.args.legs.now
+same_size c = c.loop-n.invariant.1 ∙ sym (laid-size c.requires)
 
-abbrev said_of : After-ruling_on → After-step_at
-said_of c = c.before.before.before
-
-there : (c : After-ruling_on) → (loop-of c).loop-n.n < length (start_of (loop-of c)).args.steps.now
-there c = omega (arith, (said_of c).loop-n-test.true, (loop-of c).count-count.ensures)
-
-same_size : (c : At-loop) → length c.loop-n.legs ≡ length (start_of c).args.legs.now
-same_size c = c.loop-n.invariant.1 ∙ sym (laid-size (start_of c).requires)
-
-asked : (c : At-loop) → Asked (start_of c).args.sheet.now c.loop-n.legs c.loop-n.links
+asked : (c : At-loop) → Asked c.args.sheet.now c.loop-n.legs c.loop-n.links
 asked c =
-    let pre = (start_of c).requires in
+    let pre = c.requires in
     record {
       sized = pre.sized;
       well-formed = pre.well-formed;
@@ -58,9 +43,9 @@ asked c =
       rising = c.loop-n.invariant.4.known.links-are.rising;
     }
 
-lent : (c : At-loop) → Lent (start_of c).args.sheet.now c.loop-n.links c.loop-n.paths
+lent : (c : At-loop) → Lent c.args.sheet.now c.loop-n.links c.loop-n.paths
 lent c =
-    let pre = (start_of c).requires in
+    let pre = c.requires in
     record {
       sized = pre.sized;
       well-formed = pre.well-formed;
@@ -76,75 +61,63 @@ pub step_at-s-requires : goal.step_at-s-requires
 step_at-s-requires c = omega (arith, c.count-count.ensures)
 
 pub ruling_on-requires : goal.ruling_on-requires
-ruling_on-requires c = let loop = c.before.before.before.before.before in (asked loop, (start_of loop).requires.size)
+ruling_on-requires c = (asked c.before.before.before.before.before, c.requires.size)
 
 pub overflow_cast-result : goal.overflow_cast-result
-overflow_cast-result c = omega (arith, few (loop-of c.before.before.before).loop-n.invariant.4.known)
+overflow_cast-result c = omega (arith, few c.loop-n.invariant.4.known)
 
 pub shape_of-legs-in-Wrong : goal.shape_of-legs-in-Wrong
-shape_of-legs-in-Wrong c = same_size (loop-of c.before.before.before)
+shape_of-legs-in-Wrong c = same_size c.before.before.before.before.before.before.before.before
 
 pub returns-in-Wrong : goal.returns-in-Wrong
 returns-in-Wrong c =
-    let ruled = c.before.before.before in
-    let P = (loop-of ruled).loop-n.invariant.4 in
-    let wrong = ruled-wrong P (there ruled) _ (said_of ruled).step_at-s.ensures _ (ruled.ruling_on.ensures _ _ P.known) c.in-Wrong.is in
-    (wrong, (loop-of ruled).loop-n.invariant.5)
+    let P = c.loop-n.invariant.4 in
+    let wrong = ruled-wrong P (there c.before.before.before) _ c.step_at-s.ensures _ (c.ruling_on.ensures _ _ P.known) c.in-Wrong.is in
+    (wrong, c.loop-n.invariant.5)
 
 pub close-requires : goal.close-requires
 close-requires c =
-    let told = c.before.before.before in
-    let ruled = told.before.before in
-    let loop = loop-of ruled in
-    let P = loop.loop-n.invariant.4 in
+    let P = c.loop-n.invariant.4 in
     record {
-      lent = lent loop;
-      size = (start_of loop).requires.size;
+      lent = lent c.before.before.before.before.before.before.before.before.before.before;
+      size = c.requires.size;
       legs = _;
-      upright = ruled-closes P (there ruled) _ (said_of ruled).step_at-s.ensures _ (ruled.ruling_on.ensures _ _ P.known) told.in-Closes.is;
+      upright = ruled-closes P (there c.before.before.before.before.before) _ c.step_at-s.ensures _ (c.ruling_on.ensures _ _ P.known) c.in-Closes.is;
     }
 
 pub shape_of-legs-in-Closes : goal.shape_of-legs-in-Closes
-shape_of-legs-in-Closes c = same_size (loop-of c.before.before.before.before.before.before)
+shape_of-legs-in-Closes c = same_size c.before.before.before.before.before.before.before.before.before.before.before
 
 pub returns-in-Closes : goal.returns-in-Closes
-returns-in-Closes c = (c.close.ensures, (loop-of c.before.before.before.before.before.before).loop-n.invariant.5)
+returns-in-Closes c = (c.close.ensures, c.loop-n.invariant.5)
 
 -- where the step ties
-right : (c : After-enum_told3) → let ruled = c.before.before in let start = (start_of (loop-of ruled)).args in
-    RightTie (sheet_of start.sheet.now) (marked start.listed.now) (steps_of start.steps.now) (loop-of ruled).loop-n.n
-    (said_of ruled).step_at-s.result
+right : (c : After-enum_told3) → let start = c.args in
+    RightTie (sheet_of start.sheet.now) (marked start.listed.now) (steps_of start.steps.now) c.loop-n.n
+    c.step_at-s.result
 right told =
-    let ruled = told.before.before in
-    let P = (loop-of ruled).loop-n.invariant.4 in
-    ruled-ties P (there ruled) _ (said_of ruled).step_at-s.ensures _ (ruled.ruling_on.ensures _ _ P.known) told.in-Ties.is
+    let P = told.loop-n.invariant.4 in
+    ruled-ties P (there told.before.before) _ told.step_at-s.ensures _ (told.ruling_on.ensures _ _ P.known) told.in-Ties.is
 
 pub overflow_cast-n : goal.overflow_cast-n
-overflow_cast-n c = omega (arith, few (loop-of c.before.before.before.before.before.before).loop-n.invariant.4.known)
+overflow_cast-n c = omega (arith, few c.loop-n.invariant.4.known)
 
 pub note-requires : goal.note-requires
 note-requires c =
-    let told = c.before.before.before.before in
-    let ruled = told.before.before in
-    let loop = loop-of ruled in
-    let P = loop.loop-n.invariant.4 in (
-      loop.loop-n.invariant.1,
-      loop.loop-n.invariant.2,
+    let P = c.loop-n.invariant.4 in (
+      c.loop-n.invariant.1,
+      c.loop-n.invariant.2,
       P.known.links-are.rising,
-      loop.loop-n.invariant.3,
-      tie-fits (start_of loop).requires.well-formed (there ruled) (said_of ruled).step_at-s.ensures P (right told),
+      c.loop-n.invariant.3,
+      tie-fits c.requires.well-formed (there c.before.before.before.before.before.before) c.step_at-s.ensures P (right c.before.before.before.before),
     )
 
 pub loop-n-preserved : goal.loop-n-preserved
 loop-n-preserved c =
-    let noted = c.before.before.before.before.before in
-    let told = noted.before.before.before.before in
-    let ruled = told.before.before in
-    let loop = loop-of ruled in
-    let P = loop.loop-n.invariant.4 in
-    let (leg, (path, groups)) = noted.note.ensures in
-    let Q = passed-more (start_of loop).requires.well-formed (there ruled) (said_of ruled).step_at-s.ensures P (right told) leg path groups in
-    (omega arith, Q.known.legs-are.size, Q.known.links-are.size, Q.traced.size, Q, one-laid _ _ leg loop.loop-n.invariant.5)
+    let P = c.loop-n.invariant.4 in
+    let (leg, (path, groups)) = c.note.ensures in
+    let Q = passed-more c.requires.well-formed (there c.before.before.before.before.before.before.before.before.before.before.before) c.step_at-s.ensures P (right c.before.before.before.before.before.before.before.before.before) leg path groups in
+    (omega arith, Q.known.legs-are.size, Q.known.links-are.size, Q.traced.size, Q, one-laid _ _ leg c.loop-n.invariant.5)
 
 pub overflow_cast-result-2 : goal.overflow_cast-result-2
 overflow_cast-result-2 c = omega (arith, few c.loop-n.invariant.4.known)

@@ -16,19 +16,10 @@ use Rattle.surveyor.proofs.prepare.Reads as reads
 use Rattle.surveyor.proofs.prepare.Tie as tie
 use Rattle.surveyor.proofs.prepare.Goals as goal
 
-abbrev After-check : Type 0
-After-check = lts.After-check tie.the-claims reads.Pre reads.Post
-
-abbrev Start : Type 0
-Start = lts.Start tie.the-claims reads.Pre reads.Post
-
 abbrev After-enum_told : Type 0
 After-enum_told = lts.After-enum_told tie.the-claims reads.Pre reads.Post
 
-abbrev start_of : After-check → Start
-start_of c = c.before.before.before.before.before
-
-accepted : (c : After-enum_told) → refusal (start_of c.before.before).args.sheet.now room_needed ≡ fine
+accepted : (c : After-enum_told) → refusal c.args.sheet.now room_needed ≡ fine
 accepted c = sym c.check.ensures ∙ ap check_says c.in-Fine.is
 
 pub bounds-sheet-4 : goal.bounds-sheet-4
@@ -37,32 +28,23 @@ bounds-sheet-4 c = omega (arith, (fine-formed _ (fine-sheet _ _ (accepted c.befo
 pub returns-then-not-rises : goal.returns-then-not-rises
 unfolding ReadySays
 returns-then-not-rises c =
-    let risen = c.before.before.before.before in
-    (accepted risen.before.before.before, list-none _ _ _ _ risen.rises.ensures c.if-not-rises.true-raw)
+    (accepted c.before.before.before.before.before.before.before, list-none _ _ _ _ c.rises.ensures c.if-not-rises.true-raw)
 
 pub lay-requires : goal.lay-requires
 lay-requires c =
-    let tested = c.before.before.before in
-    let risen = tested.before.before.before in
-    let told = risen.before.before.before in
-    let start = start_of told.before.before in
-    let (sized, formed) = fine-formed _ (fine-sheet _ _ (accepted told)).0 in (
+    let (sized, formed) = fine-formed _ (fine-sheet _ _ (accepted c.before.before.before.before.before.before.before.before.before)).0 in (
       sized,
       formed,
-      (list-some start.args.sheet.now start.args.list.now _ risen.rises.result risen.rises.ensures tested.if-not-rises.false-raw).size,
-      ap length start.requires.1 ∙ length-replicate {A = ℕ} 768 0,
+      (list-some c.args.sheet.now c.args.list.now _ c.rises.result c.rises.ensures c.if-not-rises.false-raw).size,
+      ap length c.requires.1 ∙ length-replicate {A = ℕ} 768 0,
     )
 
 pub returns-in-Refused : goal.returns-in-Refused
 unfolding ReadySays
-returns-in-Refused c = let told = c.before.before in sym told.check.ensures ∙ ap check_says told.in-Refused.is
+returns-in-Refused c = sym c.check.ensures ∙ ap check_says c.in-Refused.is
 
 pub returns-else-not-rises : goal.returns-else-not-rises
 unfolding ReadySays
 returns-else-not-rises c =
-    let laid = c.before.before.before in
-    let tested = laid.before.before.before in
-    let risen = tested.before.before.before in
-    let told = risen.before.before.before in
-    all-fine (start_of told.before.before).requires.1 (accepted told)
-    (list-some _ _ _ _ risen.rises.ensures tested.if-not-rises.false-raw) laid.lay.ensures
+    all-fine c.requires.1 (accepted c.before.before.before.before.before.before.before.before.before.before.before.before)
+    (list-some _ _ _ _ c.rises.ensures c.if-not-rises.false-raw) c.lay.ensures

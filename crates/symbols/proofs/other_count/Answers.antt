@@ -2,7 +2,6 @@
 -- Assumes nothing.
 use Prim.Native.Nat.{◌+◌, ◌-◌}
 use mathlib.Core.Path.{◌≡◌, refl}
-use mathlib.Core.Logic.{⊎_elim}
 use lib.ListN.{get_or}
 use native.Mathlib.Omega.{arith}
 use Rattle.sheet.specs.Sheet.{term_at}
@@ -13,6 +12,7 @@ use Rattle.symbols.proofs.Marks.{Uses, term-uses, term-uses-none, passed_over, d
 use Rattle.symbols.proofs.other_count.Lts as lts
 use Rattle.symbols.proofs.other_count.Reads as reads
 use Rattle.symbols.proofs.other_count.Goals as goal
+use Rattle.symbols.proofs.other_count.Goals.{then-kind+else-used-kind, else-kind}
 
 abbrev Then1 : Type 0
 Then1 = lts.Then1 reads.Pre reads.Post goal.the-invariant-loop-i goal.the-decreases-loop-i
@@ -33,16 +33,14 @@ bounds-marks-symbol c = omega (arith, c.shared_slice_known-then-kind-1.given (te
 pub bounds-marks-symbol-then-kind : goal.bounds-marks-symbol-then-kind
 bounds-marks-symbol-then-kind c = omega (arith, c.shared_slice_known-then-kind-1.given (term_place c.loop-i.i + 1))
 
-uses : (c : Then1) → let loop = c.before.before.before in
-    let sheet = loop.args.sheet.now in
-    let i = loop.loop-i.i in
+uses : (c : Then1) → let sheet = c.args.sheet.now in
+    let i = c.loop-i.i in
     Uses (byte_at sheet (term_place i + 1)) (byte_at sheet (term_place i)) (term_at (sheet_of sheet) i)
 uses c = term-uses _ _ (omega (arith, c.loop-i.invariant.0.counted)) c.if-kind.true
 
-test : (c : After-shared_slice_known3) → let loop = c.before.before.before.before in
-    let sheet = loop.args.sheet.now in
-    let i = loop.loop-i.i in
-    differs (get_or loop.loop-i.marks (byte_at sheet (term_place i + 1)) 0) (byte_at sheet (term_place i)) ≡ other_count_in (sheet_of sheet) i
+test : (c : After-shared_slice_known3) → let sheet = c.args.sheet.now in
+    let i = c.loop-i.i in
+    differs (get_or c.loop-i.marks (byte_at sheet (term_place i + 1)) 0) (byte_at sheet (term_place i)) ≡ other_count_in (sheet_of sheet) i
 test c =
     let loop = c.loop-i in
     tested loop.invariant.1 _ _ (omega (arith, c.shared_slice_known-then-kind-1.given (term_place loop.i + 1))) (uses c.before)
@@ -52,17 +50,19 @@ returns-then-used-kind c = found c.loop-i.invariant.0 (test c.before.before) (om
 
 pub loop-i-preserved : goal.loop-i-preserved
 loop-i-preserved c =
-    let loop = c.loop-i in
-    ⊎_elim
-    (λ w.
-    let used : Then1 = record { before = c.before.before; if1 = w.0 } in (
-      one_more loop.invariant.0 (test (record { before = used; shared-slice-known3 = w.1 })) (omega arith) w.2.left,
-      rw w.3 (marked-use loop.invariant.1 _ _ (omega (arith, w.1.given (term_place loop.i + 1))) (uses used) w.2.left),
-    ))
-    (λ w.
-    let none = term-uses-none _ _ (omega (arith, loop.invariant.0.counted)) w.0.left in
-    (one_more loop.invariant.0 (passed_over _ _ none) (omega arith) refl, rw w.1 (marked_other loop.invariant.1 none)))
-    c.if-kind.branch
+    let come = c.loop-i.invariant.0 in
+    let marked = c.loop-i.invariant.1 in
+    elim c.if-kind.branch
+    [ then-kind+else-used-kind w ↦
+        let byte = c.type_inv.sheet (term_place c.loop-i.i + 1) in
+        let uses = term-uses c.args.sheet.now c.loop-i.i (omega (arith, come.counted)) w.if-kind.true in (
+          one_more come (tested marked _ _ (omega (arith, byte)) uses) (omega arith) w.if-used-kind.false,
+          rw w.marks-is (marked-use marked _ _ (omega (arith, byte)) uses w.if-used-kind.false),
+        )
+    | else-kind w ↦
+        let none = term-uses-none c.args.sheet.now c.loop-i.i (omega (arith, come.counted)) w.if-kind.false in
+        (one_more come (passed_over _ _ none) (omega arith) refl, rw w.marks-is (marked_other marked none))
+    ]
 
 pub returns : goal.returns
 returns c = all-clear c.loop-i.invariant.0 (omega arith)

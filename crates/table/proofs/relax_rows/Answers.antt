@@ -28,33 +28,24 @@ loop-i-init c = (omega arith, refl, none_yet _ _ _ _ _)
 
 pub gap_at-requires : goal.gap_at-requires
 gap_at-requires c =
-    let turn = c.before.before.before in
-    let start = turn.before.before.before.before.before.before.before.before in
-    let size = start.requires.d_len in
-    (turn.loop-i.invariant.1 ∙ size.0, within c.loop-i-test.true size.1, within size.2 size.1)
+    let size = c.requires.d_len in
+    (c.loop-i.invariant.1 ∙ size.0, within c.loop-i-test.true size.1, within size.2 size.1)
 
 pub sum-via-requires : goal.sum-via-requires
 sum-via-requires c =
-    let turn = c.before.before.before.before in
-    let start = turn.before.before.before.before.before.before.before.before in
     rw c.gap_at.ensures
-    (first start.args.n _ _ _ _ (asked start.requires) turn.loop-i.d turn.loop-i.i c.loop-i-test.true turn.loop-i.invariant.2)
+    (first c.args.n _ _ _ _ (asked c.requires) c.loop-i.d c.loop-i.i c.loop-i-test.true c.loop-i.invariant.2)
 
 pub relax_row-requires : goal.relax_row-requires
 relax_row-requires c =
-    let added = c.before.before.before in
-    let read = added.before in
-    let turn = read.before.before.before in
-    let past = turn.past_there-to in
-    let copied = turn.before.before.before.before.before in
-    let start = copied.before.before.before in
-    let size = start.requires.d_len in
-    let via = added.sum-via.ensures.code ∙ ap (λ (x : ℕ). sum_of x start.args.g.0) read.gap_at.ensures in
-    let row = copied.row_of-row in
-    let i< : turn.loop-i.i < start.args.n = read.loop-i-test.true in record {
-      d_len = (turn.loop-i.invariant.1 ∙ size.0, within i< size.1, within size.3 size.1, past.ensures.0, up_to past.ensures.1 size.1);
-      by_index = λ j p q. second _ _ _ _ _ (asked start.requires) turn.loop-i.d turn.loop-i.i i< turn.loop-i.invariant.2 row.result _ via row.ensures j (within q past.ensures.1);
-      j_bound = λ h j p q. skipped _ _ _ _ _ (asked start.requires) turn.loop-i.d turn.loop-i.i i< turn.loop-i.invariant.2 row.result _ via row.ensures h j (within q past.ensures.1);
+    let past = c.past_there-to in
+    let size = c.requires.d_len in
+    let via = c.sum-via.ensures.code ∙ ap (λ (x : ℕ). sum_of x c.args.g.0) c.gap_at.ensures in
+    let row = c.row_of-row in
+    let i< : c.loop-i.i < c.args.n = c.loop-i-test.true in record {
+      d_len = (c.loop-i.invariant.1 ∙ size.0, within i< size.1, within size.3 size.1, past.ensures.0, up_to past.ensures.1 size.1);
+      by_index = λ j p q. second _ _ _ _ _ (asked c.requires) c.loop-i.d c.loop-i.i i< c.loop-i.invariant.2 row.result _ via row.ensures j (within q past.ensures.1);
+      j_bound = λ h j p q. skipped _ _ _ _ _ (asked c.requires) c.loop-i.d c.loop-i.i i< c.loop-i.invariant.2 row.result _ via row.ensures h j (within q past.ensures.1);
     }
 
 pub loop-i-smaller : goal.loop-i-smaller
@@ -62,21 +53,13 @@ loop-i-smaller c = less c.loop-i-test.true
 
 pub loop-i-preserved : goal.loop-i-preserved
 loop-i-preserved c =
-    let called = c.before.before.before in
-    let added = called.before.before.before in
-    let read = added.before in
-    let turn = read.before.before.before in
-    let past = turn.before in
-    let start-of-row = past.before.before in
-    let copied = start-of-row.before.before in
-    let start = copied.before.before.before in
-    let via = added.sum-via.ensures.code ∙ ap (λ (x : ℕ). sum_of x start.args.g.0) read.gap_at.ensures in
-    let row = copied.row_of-row in
-    let i< : turn.loop-i.i < start.args.n = read.loop-i-test.true in (
+    let via = c.sum-via.ensures.code ∙ ap (λ (x : ℕ). sum_of x c.args.g.0) c.gap_at.ensures in
+    let row = c.row_of-row in
+    let i< : c.loop-i.i < c.args.n = c.loop-i-test.true in (
       next i<,
-      called.relax_row.auto.d ∙ turn.loop-i.invariant.1,
-      more _ _ _ _ _ (asked start.requires) turn.loop-i.d turn.loop-i.i i< turn.loop-i.invariant.2 row.result _ via row.ensures _ _ past.past_there-to.ensures.1 start-of-row.first_there-from.ensures.1 past.past_there-to.ensures.2 _
-          called.relax_row.ensures,
+      c.relax_row.auto.d ∙ c.loop-i.invariant.1,
+      more _ _ _ _ _ (asked c.requires) c.loop-i.d c.loop-i.i i< c.loop-i.invariant.2 row.result _ via row.ensures _ _ c.past_there-to.ensures.1 c.first_there-from.ensures.1 c.past_there-to.ensures.2 _
+          c.relax_row.ensures,
     )
 
 pub shape_of-d : goal.shape_of-d
@@ -84,5 +67,4 @@ shape_of-d c = c.loop-i.invariant.1
 
 pub returns : goal.returns
 returns c =
-    let turn = c.before.before in
-    rw (end turn.loop-i.invariant.0 c.loop-i-test.false) at turn.loop-i.invariant.2
+    rw (end c.loop-i.invariant.0 c.loop-i-test.false) at c.loop-i.invariant.2

@@ -59,12 +59,10 @@ loop-i-init c = (
 
 pub loop-i-preserved : goal.loop-i-preserved
 loop-i-preserved c =
-    let called = c.before.before.before in
-    let turn = called.before.before in
-    (omega arith, omega (arith, called.start_row.auto.d), more _ _ _ _ _ (omega arith) (omega arith) turn.loop-i.invariant.2 called.start_row.ensures)
+    (omega arith, omega (arith, c.start_row.auto.d), more _ _ _ _ _ (omega arith) (omega arith) c.loop-i.invariant.2 c.start_row.ensures)
 
 at-end : (c : After-loop) → c.loop-i.i ≡ c.args.n
 at-end c = omega arith
 
 pub returns : goal.returns
-returns c = all _ _ _ (omega arith) (rw (at-end c.before) at c.loop-i.invariant.2)
+returns c = all _ _ _ (omega arith) (rw (at-end c) at c.loop-i.invariant.2)

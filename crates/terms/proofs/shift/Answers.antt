@@ -8,37 +8,26 @@ use Rattle.terms.proofs.shift.Goals as goal
 
 pub overflow_add-e : goal.overflow_add-e
 overflow_add-e c =
-    let byte = c.before.before in
-    let start = byte.before.before.before.before.before.before in
-    omega (arith, within start.args.s.now _ 42 byte.byte_at-sign.ensures c.if-sign-eq43.true)
+    omega (arith, within c.args.s.now _ 42 c.byte_at-sign.ensures c.if-sign-eq43.true)
 
 pub returns-then-sign-eq43 : goal.returns-then-sign-eq43
 returns-then-sign-eq43 c =
-    let test = c.before.before.before in
-    let read = test.before.before.before.before in
-    answers-as (shift-plus _ _ _ test.byte_at-sign.ensures _ _ (ap read_says read.in-Term.is) test.if-sign-eq43.true (omega arith)) c.value.ensures
+    answers-as (shift-plus _ _ _ c.byte_at-sign.ensures _ _ (ap read_says c.in-Term.is) c.if-sign-eq43.true (omega arith)) c.value.ensures
 
 pub overflow_add-e-then-sign-eq45 : goal.overflow_add-e-then-sign-eq45
 overflow_add-e-then-sign-eq45 c =
-    let byte = c.before.before.before in
-    let start = byte.before.before.before.before.before.before in
-    omega (arith, within start.args.s.now _ 44 byte.byte_at-sign.ensures c.if-sign-eq45.true)
+    omega (arith, within c.args.s.now _ 44 c.byte_at-sign.ensures c.if-sign-eq45.true)
 
 pub returns-then-sign-eq45 : goal.returns-then-sign-eq45
 returns-then-sign-eq45 c =
-    let test = c.before.before.before in
-    let read = test.before.before.before.before.before in
-    answers-as (shift-minus _ _ _ test.byte_at-sign.ensures _ _ (ap read_says read.in-Term.is) test.if-sign-eq43.false test.if-sign-eq45.true (omega arith))
+    answers-as (shift-minus _ _ _ c.byte_at-sign.ensures _ _ (ap read_says c.in-Term.is) c.if-sign-eq43.false c.if-sign-eq45.true (omega arith))
     c.value-then-sign-eq45.ensures
 
 pub returns-else-sign-eq45 : goal.returns-else-sign-eq45
 returns-else-sign-eq45 c =
-    let read = c.before.before.before.before.before.before in
-    let start = read.before.before.before in
-    answers-as (shift_none _ _ _ c.byte_at-sign.ensures _ (ap read_says read.in-Term.is) c.if-sign-eq43.false c.if-sign-eq45.false)
-    (record { outcome-is = refl; memory-is = refl; held = start.requires })
+    answers-as (shift_none _ _ _ c.byte_at-sign.ensures _ (ap read_says c.in-Term.is) c.if-sign-eq43.false c.if-sign-eq45.false)
+    (record { outcome-is = refl; memory-is = refl; held = c.requires })
 
 pub returns-in-Refused : goal.returns-in-Refused
 returns-in-Refused c =
-    let told = c.before.before in
-    answers-as (shift-refused _ _ (ap read_says told.in-Refused.is)) (refused-answers _ told.requires)
+    answers-as (shift-refused _ _ (ap read_says c.in-Refused.is)) (refused-answers _ c.requires)

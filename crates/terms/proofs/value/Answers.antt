@@ -10,28 +10,20 @@ use Rattle.terms.proofs.value.Goals as goal
 
 pub overflow_mul-n : goal.overflow_mul-n
 overflow_mul-n c =
-    let read = c.before.before.before in
-    let start = read.before.before.before.before in
-    let bounds = subst Bounded read.in-At.is read.number_at.ensures.bounded in
-    omega (arith, mul-le-mul_right start.args.step bounds.1)
+    let bounds = subst Bounded c.in-At.is c.number_at.ensures.bounded in
+    omega (arith, mul-le-mul_right c.args.step bounds.1)
 
 pub enter-requires : goal.enter-requires
 enter-requires c =
-    let read = c.before.before.before in
-    let start = read.before.before.before.before in
-    let bounds = subst Bounded read.in-At.is read.number_at.ensures.bounded in
-    (bounds.0, start.requires.0.0, start.requires.0.1)
+    let bounds = subst Bounded c.in-At.is c.number_at.ensures.bounded in
+    (bounds.0, c.requires.0.0, c.requires.0.1)
 
 pub returns-in-At : goal.returns-in-At
 returns-in-At c =
-    let read = c.before.before.before.before in
-    let start = read.before.before.before.before in
-    answers-as (value-number _ _ _ _ _ _ _ (sym read.number_at.ensures.model ∙ ap found_says read.in-At.is))
-    (entered-answers _ _ _ start.requires.0 c.enter.ensures.answer c.enter.ensures.memory)
+    answers-as (value-number _ _ _ _ _ _ _ (sym c.number_at.ensures.model ∙ ap found_says c.in-At.is))
+    (entered-answers _ _ _ c.requires.0 c.enter.ensures.answer c.enter.ensures.memory)
 
 pub returns-in-Refused : goal.returns-in-Refused
 returns-in-Refused c =
-    let told = c.before.before in
-    let start = told.before.before.before.before in
-    answers-as (value-refused _ _ _ _ _ _ _ (sym told.number_at.ensures.model ∙ ap found_says told.in-Refused.is))
-    (refused-answers _ start.requires.0)
+    answers-as (value-refused _ _ _ _ _ _ _ (sym c.number_at.ensures.model ∙ ap found_says c.in-Refused.is))
+    (refused-answers _ c.requires.0)

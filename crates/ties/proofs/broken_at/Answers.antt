@@ -14,27 +14,20 @@ returns-then-not-set-e c = refuted (λ p. true≢false (sym p.0 ∙ not-true _ c
 
 pub entry_at-entry-requires : goal.entry_at-entry-requires
 entry_at-entry-requires c =
-    let start = c.before.before.before.before.before.before.before.before in
-    (start.requires.sized.0, start.requires.e_bound.0)
+    (c.requires.sized.0, c.requires.e_bound.0)
 
 pub tied_at-requires : goal.tied_at-requires
 tied_at-requires c =
-    let entry = c.before.before.before.before.before in
-    let counted = entry.before in
-    let start = counted.before.before.before.before.before.before.before in
-    let below = entry-below start.requires.sized.1 start.requires.e_bound.0 entry.entry_at-entry.ensures in record {
-      d_len = (start.requires.e_bound.2, omega (arith, start.requires.sized.1.terms), rw counted.count_terms-n.ensures.0 start.requires.closed);
+    let below = entry-below c.requires.sized.1 c.requires.e_bound.0 c.entry_at-entry.ensures in record {
+      d_len = (c.requires.e_bound.2, omega (arith, c.requires.sized.1.terms), rw c.count_terms-n.ensures.0 c.requires.closed);
       a_lt_n = (omega (arith, below), omega (arith, below));
     }
 
 pub returns-in-Unequal : goal.returns-in-Unequal
 returns-in-Unequal c =
-    let told = c.before.before.before.before in
-    let entry = told.before.before in
-    let D = unequal-told entry.entry_at-entry.result told.in-Unequal.is c.tied_at.ensures in
-    rest (not-false _ entry.if-not-set-e.false-raw) (rw entry.entry_at-entry.ensures at D)
+    let D = unequal-told c.entry_at-entry.result c.in-Unequal.is c.tied_at.ensures in
+    rest (not-false _ c.if-not-set-e.false-raw) (rw c.entry_at-entry.ensures at D)
 
 pub returns-in_default : goal.returns-in_default
 returns-in_default c =
-    let entry = c.before.before in
-    rest (not-false _ entry.if-not-set-e.false-raw) (rw (← entry.entry_at-entry.ensures) (other-told entry.entry_at-entry.result c.in_default.in_default-own.keys2))
+    rest (not-false _ c.if-not-set-e.false-raw) (rw (← c.entry_at-entry.ensures) (other-told c.entry_at-entry.result c.in_default.in_default-own.keys2))

@@ -6,6 +6,5 @@ use Rattle.ties.proofs.tied_at.Goals as goal
 
 pub returns : goal.returns
 returns c =
-    let tied = c.before.before.before.before.before in
-    let pre = tied.requires in
-    tied-told _ _ _ pre.d_len.2 pre.a_lt_n (omega arith) tied.tied.ensures c.whole.ensures.code
+    let pre = c.requires in
+    tied-told _ _ _ pre.d_len.2 pre.a_lt_n (omega arith) c.tied.ensures c.whole.ensures.code

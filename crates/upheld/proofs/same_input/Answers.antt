@@ -20,47 +20,34 @@ tied_at-requires-then-tied_at c = c.requires
 
 pub returns-then-x-y : goal.returns-then-x-y
 returns-then-x-y c =
-    let same = c.before.before in
-    let g = same.before.before.before.before in
-    let f = g.before.before.before in
-    rw (f.in-Apply.is, g.in-Apply-g.is) (one_told same.if-x-y.true c.tied_at.ensures)
+    rw (c.in-Apply.is, c.in-Apply-g.is) (one_told c.if-x-y.true c.tied_at.ensures)
 
 pub returns-else-x-y : goal.returns-else-x-y
 returns-else-x-y c =
-    let g = c.before.before.before.before.before in
-    let f = g.before.before.before in
-    subst (TellsInput _ _ _) (sym (ne_eqb _ _ c.if-x-y.false)) (rw (f.in-Apply.is, g.in-Apply-g.is) (one_symbol c.if-x-y.false))
+    subst (TellsInput _ _ _) (sym (ne_eqb _ _ c.if-x-y.false)) (rw (c.in-Apply.is, c.in-Apply-g.is) (one_symbol c.if-x-y.false))
 
 pub returns-in_default-g : goal.returns-in_default-g
 returns-in_default-g c =
-    let f = c.before.before.before in
-    rw f.in-Apply.is (other-kind _ f.args.g (0 ∷ 1 ∷ 2 ∷ 4 ∷ []) tt c.in_default-g.in_default-g-own.keys2)
+    rw c.in-Apply.is (other-kind _ c.args.g (0 ∷ 1 ∷ 2 ∷ 4 ∷ []) tt c.in_default-g.in_default-g-own.keys2)
 
 -- the arms of the first test of two applications to two, where they have met
 pub returns-then-tied_at : goal.returns-then-tied_at
 returns-then-tied_at c =
-    let met = c.before.before.before in
-    let g = met.before.before.before.before in
-    let f = g.before.before.before in
-    rw (f.in-Apply2.is, g.in-Apply2-g.is)
+    rw (c.in-Apply2.is, c.in-Apply2-g.is)
     (⊎_elim
     (λ w. two-told w.0.taken (subst (TiedAtSays _ _ _ _) (sym w.2 ∙ c.if-tied_at.true) w.1.ensures) c.tied_at-then-tied_at.ensures)
-    (λ w. absurd (w.0.left (eqb-true _ _ (sym w.1 ∙ c.if-tied_at.true)))) met.if-x-y-2.branch)
+    (λ w. absurd (w.0.left (eqb-true _ _ (sym w.1 ∙ c.if-tied_at.true)))) c.if-x-y-2.branch)
 
 pub returns-else-tied_at : goal.returns-else-tied_at
 returns-else-tied_at c =
-    let met = c.before.before in
-    let g = met.before.before.before.before in
-    let f = g.before.before.before in
     subst (TellsInput _ _ _) (sym c.if-tied_at.false)
-    (rw (f.in-Apply2.is, g.in-Apply2-g.is)
+    (rw (c.in-Apply2.is, c.in-Apply2-g.is)
     (⊎_elim (λ w. two-first (subst (TiedAtSays _ _ _ _) (sym w.2 ∙ c.if-tied_at.false) w.1.ensures)) (λ w. two-symbol w.0.left)
-    met.if-x-y-2.branch))
+    c.if-x-y-2.branch))
 
 pub returns-in_default-g-2 : goal.returns-in_default-g-2
 returns-in_default-g-2 c =
-    let f = c.before.before.before in
-    rw f.in-Apply2.is (other-kind _ f.args.g (0 ∷ 1 ∷ 2 ∷ 3 ∷ []) tt c.in_default-g-2.in_default-g-2-own.keys2)
+    rw c.in-Apply2.is (other-kind _ c.args.g (0 ∷ 1 ∷ 2 ∷ 3 ∷ []) tt c.in_default-g-2.in_default-g-2-own.keys2)
 
 pub returns-in_default : goal.returns-in_default
 returns-in_default c = no-application c.args.f _ c.in_default.in_default-own.keys3

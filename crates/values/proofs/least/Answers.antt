@@ -22,11 +22,10 @@ loop-s-init c = (omega arith, omega arith, least-none _)
 
 pub loop-s-preserved : goal.loop-s-preserved
 loop-s-preserved c =
-    let read = c.before.before in
-    let loop = read.loop-s in (
+    let loop = c.loop-s in (
       omega arith,
       omega arith,
-      least_more _ _ _ _ _ loop.invariant.2 (ap whole_at read.gap_at.ensures) (halves loop.m.0 read.gap_at.result.0 _ c.tighter-m.ensures.code),
+      least_more _ _ _ _ _ loop.invariant.2 (ap whole_at c.gap_at.ensures) (halves loop.m.0 c.gap_at.result.0 _ c.tighter-m.ensures.code),
     )
 
 at-end : (c : After-loop) → c.loop-s.s ≡ c.args.n

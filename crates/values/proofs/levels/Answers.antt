@@ -34,29 +34,23 @@ overflow_mul-v c = omega (arith, product _ _ (omega arith) c.total.ensures.1)
 
 pub lowest-requires : goal.lowest-requires
 lowest-requires c =
-    let head = c.before.before.before.before in
-    let start = head.before.before.before in
-    let C = start.requires.3 in
-    (omega arith, omega arith, λ k l. omega (arith, (C.range k head.loop-i.i (omega arith) (omega arith)).low, C.small))
+    let C = c.requires.3 in
+    (omega arith, omega arith, λ k l. omega (arith, (C.range k c.loop-i.i (omega arith) (omega arith)).low, C.small))
 
 pub overflow_add-v : goal.overflow_add-v
 overflow_add-v c = omega (arith, product _ _ (omega arith) c.total.ensures.1)
 
 pub loop-i-preserved : goal.loop-i-preserved
 loop-i-preserved c =
-    let total = c.before.before in
-    let head = total.before.before.before in
-    let start = head.before.before.before in (
+    (
       omega arith,
       simp length-set (omega arith),
-      more _ head.loop-i.v head.loop-i.i _ (omega arith)
-          (level-is (cell start.args.d.now) _ _ _ _ _ (omega arith) total.total.ensures.0 c.lowest.ensures.0)
-          head.loop-i.invariant.2,
+      more _ c.loop-i.v c.loop-i.i _ (omega arith)
+          (level-is (cell c.args.d.now) _ _ _ _ _ (omega arith) c.total.ensures.0 c.lowest.ensures.0)
+          c.loop-i.invariant.2,
     )
 
 pub returns : goal.returns
 returns c =
-    let head = c.before.before in
-    let start = head.before.before.before in
-    let end : head.loop-i.i ≡ start.args.n = omega arith in
-    λ i l. head.loop-i.invariant.2 i (omega arith)
+    let end : c.loop-i.i ≡ c.args.n = omega arith in
+    λ i l. c.loop-i.invariant.2 i (omega arith)

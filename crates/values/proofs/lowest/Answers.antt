@@ -37,18 +37,15 @@ loop-k-init c = (omega arith, rw sub-zero)
 
 pub returns-then-tied-lt-NONE : goal.returns-then-tied-lt-NONE
 returns-then-tied-lt-NONE c =
-    let called = c.before.before.before in
-    let loop = called.loop-k in
-    let d = cell called.args.d.now in
-    (sym (loop.invariant.1 ∙ found d _ _ _ (omega arith) called.tied.ensures c.if-tied-lt-NONE.true), omega arith)
+    let loop = c.loop-k in
+    let d = cell c.args.d.now in
+    (sym (loop.invariant.1 ∙ found d _ _ _ (omega arith) c.tied.ensures c.if-tied-lt-NONE.true), omega arith)
 
 pub loop-k-preserved : goal.loop-k-preserved
 loop-k-preserved c =
-    let called = c.before.before.before in
-    let loop = called.loop-k in
-    let start = called.before.before.before.before in
-    let d = cell start.args.d.now in
-    (omega arith, loop.invariant.1 ∙ passed d _ _ _ (omega arith) (start.requires.2 loop.k (omega arith)) called.tied.ensures c.if-tied-lt-NONE.false)
+    let loop = c.loop-k in
+    let d = cell c.args.d.now in
+    (omega arith, loop.invariant.1 ∙ passed d _ _ _ (omega arith) (c.requires.2 loop.k (omega arith)) c.tied.ensures c.if-tied-lt-NONE.false)
 
 pub returns : goal.returns
 returns c = (sym (c.loop-k.invariant.1 ∙ first-end _ _ _ (omega arith) (omega arith)), omega arith)

@@ -18,9 +18,8 @@ loop-s-init c = (omega arith, sum-none _, omega arith)
 
 pub loop-s-preserved : goal.loop-s-preserved
 loop-s-preserved c =
-    let read = c.before.before in
-    let loop = read.loop-s in
-    (omega arith, sum_more _ _ _ _ loop.invariant.1 (c.term-sum.ensures.0 ∙ ap (term_of _) read.gap_at.ensures), omega arith)
+    let loop = c.loop-s in
+    (omega arith, sum_more _ _ _ _ loop.invariant.1 (c.term-sum.ensures.0 ∙ ap (term_of _) c.gap_at.ensures), omega arith)
 
 at-end : (c : After-loop) → c.loop-s.s ≡ c.args.n
 at-end c = omega arith

@@ -13,27 +13,19 @@ square n h = omega (arith, mul-le-mul h h)
 
 pub levels-requires : goal.levels-requires
 levels-requires c =
-    let start = c.before.before.before.before.before.before in
-    (omega arith, omega (arith, start.requires.sized.1.terms), omega (arith, start.requires.sized.1.terms), rw c.count_terms-terms.ensures.0 start.requires.closed)
+    (omega arith, omega (arith, c.requires.sized.1.terms), omega (arith, c.requires.sized.1.terms), rw c.count_terms-terms.ensures.0 c.requires.closed)
 
 pub overflow_mul-n : goal.overflow_mul-n
 overflow_mul-n c =
-    let counted = c.before.before.before.before.before in
-    let start = counted.before.before.before.before in
-    omega (arith, square (counted.count_terms-terms.result + 1) (omega (arith, start.requires.sized.1.terms)))
+    omega (arith, square (c.count_terms-terms.result + 1) (omega (arith, c.requires.sized.1.terms)))
 
 pub holds-requires : goal.holds-requires
 holds-requires c =
-    let counted = c.before.before.before.before.before.before in
-    let start = counted.before.before.before.before in
-    (omega arith, omega (arith, start.requires.sized.1.terms), omega (arith, start.requires.sized.1.terms), square (counted.count_terms-terms.result + 1) (omega (arith, start.requires.sized.1.terms)))
+    (omega arith, omega (arith, c.requires.sized.1.terms), omega (arith, c.requires.sized.1.terms), square (c.count_terms-terms.result + 1) (omega (arith, c.requires.sized.1.terms)))
 
 pub returns : goal.returns
 returns c =
-    let made = c.before.before.before in
-    let counted = c.before.before.before.before.before.before.before.before.before in
-    let start = counted.before.before.before.before in
-    let e : counted.count_terms-terms.result ≡ _ = counted.count_terms-terms.ensures.0 in record {
+    let e : c.count_terms-terms.result ≡ _ = c.count_terms-terms.ensures.0 in record {
       length = omega arith;
-      record = written _ _ _ start.requires.sized.1 start.requires.closed (rw e at c.levels.ensures) (rw e at made.holds.ensures.record);
+      written = written _ _ _ c.requires.sized.1 c.requires.closed (rw e at c.levels.ensures) (rw e at c.holds.ensures.written);
     }

@@ -6,6 +6,5 @@ use Rattle.writing.proofs.head.Goals as goal
 
 pub returns : goal.returns
 returns c =
-    let start = c.before.before.before.before.before.before in
     let wrote = c.write.ensures in
-    headed (λ k. (c.slice_known-2-1.given k).fits) (omega arith) start.requires.2 (omega (arith, wrote.0)) wrote.1
+    headed (λ k. (c.slice_known-2-1.given k).fits) (omega arith) c.requires.2 (omega (arith, wrote.0)) wrote.1

@@ -10,20 +10,13 @@ loop-i-init c = (omega arith, refl, λ k. (c.slice_known-2-1.given k).fits, fill
 
 pub loop-i-preserved : goal.loop-i-preserved
 loop-i-preserved c =
-    let wrote = c.before.before.before in
-    let taken = wrote.before in
-    let head = c.before.before.before.before.before.before.before.before.before in
-    let start = c.before.before.before.before.before.before.before.before.before.before.before.before.before.before.before.before in
-    let known = c.before.before.before.before.before.before.before.before.before.before.before.before.before.before in
-    let e = value_written start.args.v.now start.args.t head.loop-i.i (omega arith) (known.shared_slice_known-1.given start.args.t).fits taken.wrapping_sub_u64.ensures in
-    (omega arith, wrote.write.auto.out ∙ head.loop-i.invariant.1, λ k. (c.slice_known-in-loop-i-1.given k).fits, fill_more head.loop-i.invariant.3 (wrote.write.ensures.0 ∙ e, wrote.write.ensures.1))
+    let e = value_written c.args.v.now c.args.t c.loop-i.i (omega arith) (c.shared_slice_known-1.given c.args.t).fits c.wrapping_sub_u64.ensures.value in
+    (omega arith, c.write.auto.out ∙ c.loop-i.invariant.1, λ k. (c.slice_known-in-loop-i-1.given k).fits, fill_more c.loop-i.invariant.3 (c.write.ensures.0 ∙ e, c.write.ensures.1))
 
 pub returns : goal.returns
 returns c =
-    let head = c.before.before in
-    let start = c.before.before.before.before.before.before.before.before.before in
-    let inv = head.loop-i.invariant in
-    let end : head.loop-i.i ≡ start.args.t = omega arith in record {
+    let inv = c.loop-i.invariant in
+    let end : c.loop-i.i ≡ c.args.t = omega arith in record {
       length = refl;
-      record = recorded _ _ _ inv.2 (omega arith) head.head.ensures (rw end at inv.3);
+      written = recorded _ _ _ inv.2 (omega arith) c.head.ensures (rw end at inv.3);
     }
