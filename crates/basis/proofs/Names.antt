@@ -67,7 +67,7 @@ in-at [] d x h = absurd (omega arith)
 in-at (a ∷ l) d zero h = here refl
 in-at (a ∷ l) d (suc x) h = later (in-at l d x (omega arith))
 
-at_in : {A : Type 0} {l : List A} {a : A} (d : A) → In a l → (x : ℕ) × (x < length l) × (get_or l x d ≡ a)
+at_in : {A : Type 0} (d : A) {a : A} {l : List A} → In a l → (x : ℕ) × (x < length l) × (get_or l x d ≡ a)
 at_in d (here e) = (0, omega arith, sym e)
 at_in d (later m) = let (x, h, e) = at_in d m in (suc x, omega arith, e)
 

@@ -13,8 +13,11 @@ use Rattle.roots.specs.Keyed.{Root, Keyed, for-apply, for-apply2}
 
 -- a term without an input has the same input as none
 pub keyless : {d : ℕ → ℕ → ℕ} {Alike : ℕ → ℕ → Type 0} {t u : Term} → Keyed d t 0 → SameInput Alike t u → ⊥
-keyless (for-apply P e) (one p) = omega arith
-keyless (for-apply2 P Q e) (two p q) = omega arith
+keyless {d} {Alike} k s = go s k
+  where
+    go : {t u : Term} → SameInput Alike t u → Keyed d t 0 → ⊥
+    go (one p) (for-apply P e) = omega arith
+    go (two p q) (for-apply2 P Q e) = omega arith
 
 module _ {N R : ℕ} {d : ℕ → ℕ → ℕ} (C : Closed N R d) where
   not_lower : {a b r s : ℕ} → a < N → b < N → TiedAt d a b (pos 0) → Root d a r → Root d b s → r < s → ⊥
@@ -25,6 +28,9 @@ module _ {N R : ℕ} {d : ℕ → ℕ → ℕ} (C : Closed N R d) where
 
   pub one_key : {t u : Term} {k l : ℕ} → ArgumentsBelow N t → ArgumentsBelow N u → SameInput (λ a b. TiedAt d a b (pos 0)) t u
       → Keyed d t k → Keyed d u l → k ≡ l
-  one_key (of-apply a<) (of-apply b<) (one p) (for-apply P e) (for-apply Q f) = omega (arith, one-root a< b< p P Q)
-  one_key (of-apply2 a< b<) (of-apply2 a'< b'<) (two p q) (for-apply2 P Q e) (for-apply2 P' Q' f) =
-      omega (arith, one-root a< a'< p P P', one-root b< b'< q Q Q')
+  one_key t< u< same k l = go same t< u< k l
+    where
+      go : {t u : Term} {k l : ℕ} → SameInput (λ a b. TiedAt d a b (pos 0)) t u → ArgumentsBelow N t → ArgumentsBelow N u → Keyed d t k → Keyed d u l → k ≡ l
+      go (one p) (of-apply a<) (of-apply b<) (for-apply P e) (for-apply Q f) = omega (arith, one-root a< b< p P Q)
+      go (two p q) (of-apply2 a< b<) (of-apply2 a'< b'<) (for-apply2 P Q e) (for-apply2 P' Q' f) =
+          omega (arith, one-root a< a'< p P P', one-root b< b'< q Q Q')

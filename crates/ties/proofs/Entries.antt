@@ -1,12 +1,9 @@
 -- When an entry is broken, as the code's entries say it, and when one of a set is.
 -- Assumes nothing.
 use Prim.Native.Nat.{ℕ, ◌<◌}
-use mathlib.Core.Path.{◌≡◌, sym, ap}
+use mathlib.Core.Path.{◌≡◌, refl, sym, ap}
 use mathlib.Core.Bool.{Bool, true, false, true≢false}
-use mathlib.Core.List.{[], ◌∷◌}
 use native.Mathlib.Omega.{arith}
-use denote.Enum.Declared.{tag_of}
-use types.Run.{OneOf, miss}
 use Rattle.closure.specs.Closed.{TiedAt}
 use Rattle.order.specs.First.{Set}
 use Rattle.sheet.specs.declared.Entry.{Entry as Code-Entry}
@@ -14,7 +11,6 @@ use Rattle.sheet.specs.declared.Relation.{Relation as Code-Relation}
 use Rattle.sheet.specs.declared.Relation.TheVariants.{Equal, Unequal, AtMost, Less}
 use Rattle.sheet.specs.Sheet.{unequal, Sheet, count_entries, entry_at}
 use Rattle.sheet.specs.Says.{biased_says, relation_says, entry_says}
-use Rattle.sheet.specs.contracts.Relation.{the_type}
 use Rattle.meaning.specs.Decides.{Decides}
 use Rattle.meaning.proofs.Decides.{refuted, told}
 use Rattle.ties.specs.Ties.{Broken, Checked}
@@ -25,13 +21,13 @@ pub unequal-told : {d : ℕ → ℕ → ℕ} {r : Bool} (e : Code-Entry) → e.r
 unequal-told e h = told (λ t. record { is-unequal = ap relation_says h; tied = t }) (λ b. b.tied)
 
 -- any other
-other : (r : Code-Relation) → OneOf (0 ∷ 2 ∷ 3 ∷ []) (tag_of the_type r) → relation_says r ≡ unequal → ⊥
+other : (r : Code-Relation) → (r ≡ Unequal → ⊥) → relation_says r ≡ unequal → ⊥
 other Equal h e = let z : ◌≡◌ {A = ℕ} 0 1 = cc in omega arith
-other Unequal h e = miss (0 ∷ 2 ∷ 3 ∷ []) 1 tt h
+other Unequal h e = h refl
 other AtMost h e = let z : ◌≡◌ {A = ℕ} 0 1 = cc in omega arith
 other Less h e = let z : ◌≡◌ {A = ℕ} 0 1 = cc in omega arith
 
-pub other-told : {d : ℕ → ℕ → ℕ} (e : Code-Entry) → OneOf (0 ∷ 2 ∷ 3 ∷ []) (tag_of the_type e.relation) → Decides (Broken d (entry_says e)) false
+pub other-told : {d : ℕ → ℕ → ℕ} (e : Code-Entry) → (e.relation ≡ Unequal → ⊥) → Decides (Broken d (entry_says e)) false
 other-told e h = refuted (λ b. other e.relation h b.is-unequal)
 
 module _ {s : Sheet} {S : Set} {d : ℕ → ℕ → ℕ} where

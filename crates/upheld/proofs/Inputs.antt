@@ -4,16 +4,13 @@ use Prim.Native.Nat.{ℕ, ◌≤◌}
 use mathlib.Core.Path.{◌≡◌, refl, sym, ◌∙◌, subst}
 use mathlib.Core.Logic.{◌≢◌, ⊎_elim}
 use mathlib.Core.Bool.{Bool, true, false, not}
-use lib.Dec.{T}
-use mathlib.Core.List.{List, [], ◌∷◌}
+use mathlib.Core.List.{List}
 use native.Mathlib.Omega.{arith}
-use denote.Enum.Declared.{tag_of}
-use mir.Val.{has_key}
-use types.Run.{OneOf, miss}
+use Rattle.sheet.specs.declared.Symbol.{Symbol}
+use Rattle.sheet.specs.declared.TermNumber.{TermNumber}
 use Rattle.sheet.specs.declared.Term.{Term as Code-Term}
 use Rattle.sheet.specs.declared.Term.TheVariants.{Unknown, Number, Shift, Apply, Apply2}
 use Rattle.sheet.specs.Says.{term_says}
-use Rattle.sheet.specs.contracts.Term as code
 use Rattle.sheet.specs.Sheet.{Term, unknown, number, shift, apply, apply2}
 use Rattle.sheet.proofs.Below.{argument, arguments}
 use Rattle.meaning.specs.Meaning.{SameInput}
@@ -73,32 +70,36 @@ module _ {links : List ℕ} {x y a b c d : ℕ} where
   pub two-symbol : x ≢ y → TellsInput links (apply2 x a b) (apply2 y c d) false
   two-symbol n = unlike (λ Alike I. n (same-two I).0)
 
--- the kinds of terms, as the code numbers them: alike are two of kind 3 or two of kind 4
-abbrev kind : Term → ℕ
-kind unknown = 0
-kind (number c) = 1
-kind (shift a c) = 2
-kind (apply symbol a) = 3
-kind (apply2 symbol a b) = 4
+-- alike are two applications to one, or two to two
+pub not-one : {links : List ℕ} (x a : ℕ) (g : Code-Term) → ((f : Symbol) (b : TermNumber) → g ≡ Apply f b → ⊥) → TellsInput links (apply x a) (term_says g) false
+not-one x a g n = unlike (λ Alike I. go g n I)
+  where
+    go : {Alike : ℕ → ℕ → Type 0} (g : Code-Term) → ((f : Symbol) (b : TermNumber) → g ≡ Apply f b → ⊥) → SameInput Alike (apply x a) (term_says g) → ⊥
+    go Unknown n I = elim I [ ]
+    go (Number c) n I = elim I [ ]
+    go (Shift b c) n I = elim I [ ]
+    go (Apply f b) n I = n f b refl
+    go (Apply2 f b c) n I = elim I [ ]
 
-kind-is : (t : Code-Term) → tag_of code.the_type t ≡ kind (term_says t)
-kind-is Unknown = refl
-kind-is (Number c) = refl
-kind-is (Shift a c) = refl
-kind-is (Apply symbol a) = refl
-kind-is (Apply2 symbol a b) = refl
+pub not-two : {links : List ℕ} (x a b : ℕ) (g : Code-Term) → ((f : Symbol) (c d : TermNumber) → g ≡ Apply2 f c d → ⊥) → TellsInput links (apply2 x a b) (term_says g) false
+not-two x a b g n = unlike (λ Alike I. go g n I)
+  where
+    go : {Alike : ℕ → ℕ → Type 0} (g : Code-Term) → ((f : Symbol) (c d : TermNumber) → g ≡ Apply2 f c d → ⊥) → SameInput Alike (apply2 x a b) (term_says g) → ⊥
+    go Unknown n I = elim I [ ]
+    go (Number c) n I = elim I [ ]
+    go (Shift c d) n I = elim I [ ]
+    go (Apply f c) n I = elim I [ ]
+    go (Apply2 f c d) n I = n f c d refl
 
-same_kind : {Alike : ℕ → ℕ → Type 0} {f g : Term} → SameInput Alike f g → (kind g ≡ kind f) × (3 ≤ kind f)
-same_kind (one h) = (refl, omega arith)
-same_kind (two h k) = (refl, omega arith)
+pub no-application : {links : List ℕ} (f : Code-Term) (g : Term) → ((x : Symbol) (a : TermNumber) → f ≡ Apply x a → ⊥) →
+    ((x : Symbol) (a b : TermNumber) → f ≡ Apply2 x a b → ⊥) → TellsInput links (term_says f) g false
+no-application f g n m = unlike (λ Alike I. go f n m I)
+  where
+    go : {Alike : ℕ → ℕ → Type 0} (f : Code-Term) → ((x : Symbol) (a : TermNumber) → f ≡ Apply x a → ⊥) →
+        ((x : Symbol) (a b : TermNumber) → f ≡ Apply2 x a b → ⊥) → SameInput Alike (term_says f) g → ⊥
+    go Unknown n m I = elim I [ ]
+    go (Number c) n m I = elim I [ ]
+    go (Shift a c) n m I = elim I [ ]
+    go (Apply x a) n m I = n x a refl
+    go (Apply2 x a b) n m I = m x a b refl
 
-pub other-kind : {links : List ℕ} (f : Term) (g : Code-Term) (kinds : List ℕ) → T (not (has_key kinds (kind f))) →
-    OneOf kinds (tag_of code.the_type g) → TellsInput links f (term_says g) false
-other-kind f g kinds n k = unlike (λ Alike I. miss kinds (kind f) n (subst (OneOf kinds) (kind-is g ∙ (same_kind I).0) k))
-
-pub no-application : {links : List ℕ} (f : Code-Term) (g : Term) → OneOf (0 ∷ 1 ∷ 2 ∷ []) (tag_of code.the_type f) →
-    TellsInput links (term_says f) g false
-no-application f g k = unlike (λ Alike I.
-    let e = kind-is f in
-    let l = (same_kind I).1 in
-    ⊎_elim (λ h. omega arith) (⊎_elim (λ h. omega arith) (λ h. omega arith)) k)

@@ -19,10 +19,10 @@ use Rattle.argued.proofs.argue.Tie as tie
 use Rattle.argued.proofs.argue.Goals as goal
 
 abbrev After-list2 : Type 0
-After-list2 = lts.After-list2 tie.the-claims reads.Pre reads.Post
+After-list2 = lts.After-list2 tie.the-claims reads.Pre reads.Post tie.handed_clauses
 
 abbrev Start : Type 0
-Start = lts.Start tie.the-claims reads.Pre reads.Post
+Start = lts.Start tie.the-claims reads.Pre reads.Post tie.handed_clauses
 
 pub list-m-requires : goal.list-m-requires
 list-m-requires c =

@@ -19,19 +19,19 @@ use Rattle.argued.proofs.by_entry.Tie as tie
 use Rattle.argued.proofs.by_entry.Goals as goal
 
 abbrev After-entry_at : Type 0
-After-entry_at = lts.After-entry_at tie.the-claims reads.Pre reads.Post
+After-entry_at = lts.After-entry_at tie.the-claims reads.Pre reads.Post tie.handed_clauses
 
 abbrev After-mark : Type 0
-After-mark = lts.After-mark tie.the-claims reads.Pre reads.Post
+After-mark = lts.After-mark tie.the-claims reads.Pre reads.Post tie.handed_clauses
 
 abbrev After-both : Type 0
-After-both = lts.After-both tie.the-claims reads.Pre reads.Post
+After-both = lts.After-both tie.the-claims reads.Pre reads.Post tie.handed_clauses
 
 abbrev Start : Type 0
-Start = lts.Start tie.the-claims reads.Pre reads.Post
+Start = lts.Start tie.the-claims reads.Pre reads.Post tie.handed_clauses
 
 abbrev After-gather2 : Type 0
-After-gather2 = lts.After-gather2 tie.the-claims reads.Pre reads.Post
+After-gather2 = lts.After-gather2 tie.the-claims reads.Pre reads.Post tie.handed_clauses
 
 module _ (R : After-entry_at) where
   left-few : R.entry_at-entry.result.a.0 < count_terms (sheet_of R.args.sheet.now)

@@ -16,10 +16,10 @@ use Rattle.argued.proofs.by_round.Tie as tie
 use Rattle.argued.proofs.by_round.Goals as goal
 
 abbrev After-round : Type 0
-After-round = lts.After-round tie.the-claims reads.Pre reads.Post
+After-round = lts.After-round tie.the-claims reads.Pre reads.Post tie.handed_clauses
 
 abbrev After-gather : Type 0
-After-gather = lts.After-gather tie.the-claims reads.Pre reads.Post
+After-gather = lts.After-gather tie.the-claims reads.Pre reads.Post tie.handed_clauses
 
 pub round-requires : goal.round-requires
 round-requires c =

@@ -12,7 +12,7 @@ use Rattle.argued.proofs.write_round.Tie as tie
 use Rattle.argued.proofs.write_round.Goals as goal
 
 abbrev After-rank : Type 0
-After-rank = lts.After-rank tie.the-claims reads.Pre reads.Post
+After-rank = lts.After-rank tie.the-claims reads.Pre reads.Post tie.handed_clauses
 
 few-kept : (R : After-rank) → rank (marked R.args.need.now) R.args.count ≤ R.args.count
 few-kept R = rank-low (marked R.args.need.now) R.args.count

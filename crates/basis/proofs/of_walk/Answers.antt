@@ -2,10 +2,10 @@
 -- Assumes nothing.
 use Prim.Native.Nat.{◌-◌}
 use mathlib.Core.Path.{◌≡◌, refl}
-use mathlib.Core.Logic.{⊎_elim}
 use native.Mathlib.Omega.{arith}
 use Rattle.basis.proofs.Having.{adds_none, adds-tie, adds-other}
 use Rattle.basis.proofs.of_walk.Goals as goal
+use Rattle.basis.proofs.of_walk.Goals.{then-name-ge-TIE, else-name-ge-TIE}
 
 pub loop-x-init : goal.loop-x-init
 loop-x-init c = (omega arith, adds_none c.none-ties.ensures)
@@ -18,10 +18,10 @@ only-requires c =
 pub loop-x-preserved : goal.loop-x-preserved
 loop-x-preserved c =
     let loop = c.loop-x in
-    ⊎_elim
-    (λ w. rw w.3 (omega arith, adds-tie loop.invariant.1 w.1.result (omega (arith, w.0.taken)) w.1.ensures w.2.ensures))
-    (λ w. rw w.1 (omega arith, adds-other loop.invariant.1 (omega (arith, w.0.left))))
-    c.if-name-ge-TIE.branch
+    elim c.if-name-ge-TIE.branch
+    [ then-name-ge-TIE w ↦ rw w.ties-is (omega arith, adds-tie loop.invariant.1 w.only.result (omega (arith, w.if-name-ge-TIE.true)) w.only.ensures w.either-ties.ensures)
+    | else-name-ge-TIE w ↦ rw w.ties-is (omega arith, adds-other loop.invariant.1 (omega (arith, w.if-name-ge-TIE.false)))
+    ]
 
 pub returns : goal.returns
 returns c =

@@ -3,7 +3,6 @@
 use Prim.Native.Nat.{ℕ, ◌+◌, ◌*◌, ◌-◌, ◌<◌}
 use mathlib.Core.Path.{◌≡◌, refl, sym, ap, ◌∙◌}
 use mathlib.Core.List.{List}
-use mathlib.Core.Logic.{⊎_elim}
 use lib.ListN.{length, get_or, set, length-set}
 use lib.Seq.{get_or-set_same, get_or-set_other}
 use native.Mathlib.Omega.{arith}
@@ -12,6 +11,7 @@ use Rattle.cells.specs.Cells.{stride, cell}
 use Rattle.forest.specs.Labels.{relabelled, Joined}
 use Rattle.forest.proofs.Rows.{relabelled-in, relabelled-out}
 use Rattle.forest.proofs.join.Goals as goal
+use Rattle.forest.proofs.join.Goals.{then-own-from, else-own-from}
 
 none_yet : (t a b : ℕ) (labels : List ℕ) → Joined 0 t a b labels labels
 none_yet t a b labels = record { row = λ i h. absurd (omega arith); before = λ k h. refl; after = λ k h. refl }
@@ -48,8 +48,10 @@ loop-i-preserved c =
       refl,
       omega arith,
       simp length-set (omega arith),
-      one_more _ _ _ _ _ _ _ _ (omega arith) (omega arith) (⊎_elim (λ w. w.1 ∙ taken _ _ _ _ _ _ loop.invariant.5 (omega arith) w.0.taken)
-          (λ w. w.1 ∙ left _ _ _ _ _ _ loop.invariant.5 (omega arith) w.0.left) c.if-own-from.branch) loop.invariant.5,
+      one_more _ _ _ _ _ _ _ _ (omega arith) (omega arith) (elim c.if-own-from.branch
+    [ then-own-from w ↦ w.labels-is ∙ taken _ _ _ _ _ _ loop.invariant.5 (omega arith) w.if-own-from.true
+    | else-own-from w ↦ w.labels-is ∙ left _ _ _ _ _ _ loop.invariant.5 (omega arith) w.if-own-from.false
+    ]) loop.invariant.5,
     )
 
 pub returns : goal.returns

@@ -13,10 +13,10 @@ use Rattle.forest.proofs.joining.Tie as tie
 use Rattle.forest.proofs.joining.Goals as goal
 
 abbrev Start : Type 0
-Start = lts.Start tie.the-claims reads.Pre reads.Post goal.the-invariant-loop-u goal.the-decreases-loop-u
+Start = lts.Start tie.the-claims reads.Pre reads.Post goal.the-invariant-loop-u goal.the-decreases-loop-u tie.handed_clauses
 
 abbrev Then1 : Type 0
-Then1 = lts.Then1 tie.the-claims reads.Pre reads.Post goal.the-invariant-loop-u goal.the-decreases-loop-u
+Then1 = lts.Then1 tie.the-claims reads.Pre reads.Post goal.the-invariant-loop-u goal.the-decreases-loop-u tie.handed_clauses
 
 -- what holds of a row and not of row 0, or of row t and not of one up to t
 above : (P : ℕ → Type 0) (u : ℕ) → (P 0 → ⊥) → P u → 1 ≤ u

@@ -2,11 +2,11 @@
 -- Assumes nothing.
 use Prim.Native.Nat.{◌-◌}
 use mathlib.Core.Path.{◌≡◌, refl}
-use mathlib.Core.Logic.{⊎_elim}
 use native.Mathlib.Omega.{arith}
 use Rattle.pairs.proofs.Passes.{same, sofar-table, more-new, more-still, ended, clash-after}
 use Rattle.groups.proofs.Groups.{none-paired, one-paired}
 use Rattle.groups.proofs.pass_group.Goals as goal
+use Rattle.groups.proofs.pass_group.Goals.{in-New, in-Still}
 
 pub first_from-q-requires : goal.first_from-q-requires
 first_from-q-requires c =
@@ -42,9 +42,10 @@ loop-q-preserved c =
       omega arith,
       omega arith,
       omega arith,
-      ⊎_elim (λ w. rw w.2 (more-new _ c.loop-q.invariant.3 (rw w.1.given.1 at c.pass_pair.ensures)))
-          (λ w. rw w.2 (more-still _ one-paired c.loop-q.invariant.3 (rw w.1.given.1 at c.pass_pair.ensures)))
-          c.match-pass_pair.branch,
+      (elim c.match-pass_pair.branch
+    [ in-New w ↦ rw w.fresh-is (more-new _ c.loop-q.invariant.3 (rw w.fresh-is.given.1 at c.pass_pair.ensures))
+    | in-Still w ↦ rw w.fresh-is (more-still _ one-paired c.loop-q.invariant.3 (rw w.fresh-is.given.1 at c.pass_pair.ensures))
+    ]),
     )
 
 pub returns : goal.returns

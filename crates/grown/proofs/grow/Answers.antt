@@ -16,7 +16,7 @@ use Rattle.grown.proofs.grow.Tie as tie
 use Rattle.grown.proofs.grow.Goals as goal
 
 abbrev After-put : Type 0
-After-put = lts.After-put tie.the-claims reads.Pre reads.Post
+After-put = lts.After-put tie.the-claims reads.Pre reads.Post tie.handed_clauses
 
 -- what has come of them
 rested-of : (c : After-put)

@@ -19,16 +19,16 @@ use Rattle.grown.proofs.tie_all.Tie as tie
 use Rattle.grown.proofs.tie_all.Goals as goal
 
 abbrev At-loop : Type 0
-At-loop = lts.At-loop tie.the-claims reads.Pre reads.Post goal.the-invariant-loop-i goal.the-decreases-loop-i
+At-loop = lts.At-loop tie.the-claims reads.Pre reads.Post goal.the-invariant-loop-i goal.the-decreases-loop-i tie.handed_clauses
 
 abbrev After-partner : Type 0
-After-partner = lts.After-partner tie.the-claims reads.Pre reads.Post goal.the-invariant-loop-i goal.the-decreases-loop-i
+After-partner = lts.After-partner tie.the-claims reads.Pre reads.Post goal.the-invariant-loop-i goal.the-decreases-loop-i tie.handed_clauses
 
 abbrev After-both : Type 0
-After-both = lts.After-both tie.the-claims reads.Pre reads.Post goal.the-invariant-loop-i goal.the-decreases-loop-i
+After-both = lts.After-both tie.the-claims reads.Pre reads.Post goal.the-invariant-loop-i goal.the-decreases-loop-i tie.handed_clauses
 
 abbrev After-slice_known8 : Type 0
-After-slice_known8 = lts.After-slice_known8 tie.the-claims reads.Pre reads.Post goal.the-invariant-loop-i goal.the-decreases-loop-i
+After-slice_known8 = lts.After-slice_known8 tie.the-claims reads.Pre reads.Post goal.the-invariant-loop-i goal.the-decreases-loop-i tie.handed_clauses
 
 abbrev sheet-of : At-loop → Sheet
 sheet-of c = sheet_of c.args.sheet.now

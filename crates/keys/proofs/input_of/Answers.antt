@@ -31,4 +31,4 @@ returns-in-Apply2 c =
     rw c.in-Apply2.is (first.0, c.height_of.ensures.0, first.1)
 
 pub returns-in_default : goal.returns-in_default
-returns-in_default c = no-input _ _ c.args.x c.in_default.in_default-own.keys3
+returns-in_default c = no-input _ _ c.args.x c.in_default.not-Apply c.in_default.not-Apply2

@@ -13,7 +13,7 @@ use Rattle.laid.proofs.arguments.Tie as tie
 use Rattle.laid.proofs.arguments.Goals as goal
 
 abbrev After-fields_at2 : Type 0
-After-fields_at2 = lts.After-fields_at2 tie.the-claims reads.Pre reads.Post
+After-fields_at2 = lts.After-fields_at2 tie.the-claims reads.Pre reads.Post tie.handed_clauses
 
 pub fields_at-f-requires : goal.fields_at-f-requires
 fields_at-f-requires c = omega (arith, terms-stated c.args.sheet.now)

@@ -15,10 +15,10 @@ use Rattle.laid.proofs.lay.Tie as tie
 use Rattle.laid.proofs.lay.Goals as goal
 
 abbrev In-loop : Type 0
-In-loop = lts.In-loop tie.the-claims reads.Pre reads.Post goal.the-invariant-loop-e goal.the-decreases-loop-e
+In-loop = lts.In-loop tie.the-claims reads.Pre reads.Post goal.the-invariant-loop-e goal.the-decreases-loop-e tie.handed_clauses
 
 abbrev After-arguments : Type 0
-After-arguments = lts.After-arguments tie.the-claims reads.Pre reads.Post goal.the-invariant-loop-e goal.the-decreases-loop-e
+After-arguments = lts.After-arguments tie.the-claims reads.Pre reads.Post goal.the-invariant-loop-e goal.the-decreases-loop-e tie.handed_clauses
 
 pub loop-e-init : goal.loop-e-init
 loop-e-init c =

@@ -1,10 +1,10 @@
 -- `layers::find` meets its contract.
 -- Assumes nothing.
-use mathlib.Core.Logic.{⊎_elim}
 use Prim.Native.Nat.{◌-◌, ◌<◌}
 use borrow.Author.Count.{below_more}
 use native.Mathlib.Omega.{arith}
 use Rattle.layers.proofs.find.Goals as goal
+use Rattle.layers.proofs.find.Goals.{then-wide-i+else-via-total, else-wide-i}
 
 pub loop-e-init : goal.loop-e-init
 loop-e-init c = (omega arith, λ k h. absurd (omega arith))
@@ -31,7 +31,10 @@ loop-e-preserved c =
     (
       omega arith,
       below_more _ _ c.loop-e.invariant.1
-          (⊎_elim (λ w g. w.2.left (omega (arith, w.1.ensures, g.sums))) (λ w g. w.left (omega (arith, c.wide.ensures, g.starts))) c.if-wide-i.branch),
+          (elim c.if-wide-i.branch
+    [ then-wide-i+else-via-total w ↦ (λ g. w.if-via-total.false (omega (arith, w.via.ensures, g.sums)))
+    | else-wide-i w ↦ (λ g. w.if-wide-i.false (omega (arith, c.wide.ensures, g.starts)))
+    ]),
     )
 
 pub returns : goal.returns

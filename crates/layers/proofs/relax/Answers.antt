@@ -1,6 +1,5 @@
 -- `layers::relax` meets its contract.
 -- Assumes nothing.
-use mathlib.Core.Logic.{⊎_elim}
 use Prim.Native.Nat.{◌+◌, ◌-◌}
 use mathlib.Core.Path.{◌≡◌, refl}
 use lib.ListN.{length-set}
@@ -8,6 +7,7 @@ use Rattle.cells.proofs.Keeps.{kept-all}
 use Rattle.layers.proofs.Rows.{over_none, low-is, better, not-better, kept_set}
 use native.Mathlib.Omega.{arith}
 use Rattle.layers.proofs.relax.Goals as goal
+use Rattle.layers.proofs.relax.Goals.{then-total-best, else-total-best}
 
 pub loop-e-init : goal.loop-e-init
 loop-e-init c = (refl, omega arith, refl, over_none _ _ _ _ c.requires.by_index, kept-all _ _)
@@ -42,19 +42,17 @@ loop-e-preserved c =
     let e< = c.loop-e-test.true in
     let R = c.loop-e.invariant.3 in
     let total = c.via-total.ensures in
-    ⊎_elim
-    (λ w.
-    rw (w.1, w.2) (
+    elim c.if-total-best.branch
+    [ then-total-best w ↦ rw (w.best-is, w.changed-is) (
       refl,
       omega arith,
       simp length-set (omega arith),
-      better _ _ S (omega arith) _ _ _ _ _ e< R _ total _ (omega arith) (omega (arith, S.from< c.loop-e.e e<)) w.0.taken,
+      better _ _ S (omega arith) _ _ _ _ _ e< R _ total _ (omega arith) (omega (arith, S.from< c.loop-e.e e<)) w.if-total-best.true,
       kept_set _ (c.args.h + 1) _ _ _ (omega arith) (omega arith) (S.from< c.loop-e.e e<) (omega arith) c.loop-e.invariant.4,
-    ))
-    (λ w.
-    rw (w.1, w.2)
-    (refl, omega arith, omega arith, not-better _ _ S (omega arith) _ _ _ _ _ e< R _ total _ (omega arith) w.0.left, c.loop-e.invariant.4))
-    c.if-total-best.branch
+    )
+    | else-total-best w ↦ rw (w.best-is, w.changed-is)
+    (refl, omega arith, omega arith, not-better _ _ S (omega arith) _ _ _ _ _ e< R _ total _ (omega arith) w.if-total-best.false, c.loop-e.invariant.4)
+    ]
 
 pub returns : goal.returns
 returns c =

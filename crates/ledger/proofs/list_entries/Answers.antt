@@ -2,10 +2,10 @@
 -- Assumes nothing.
 use Prim.Native.Nat.{◌+◌, ◌-◌, ◌≤◌}
 use mathlib.Core.Path.{◌≡◌}
-use mathlib.Core.Logic.{⊎_elim}
 use native.Mathlib.Omega.{arith}
 use Rattle.ledger.proofs.Goes.{entry_more, entry-skipped}
 use Rattle.ledger.proofs.list_entries.Goals as goal
+use Rattle.ledger.proofs.list_entries.Goals.{then-set-e, else-set-e}
 
 pub loop-e-init : goal.loop-e-init
 loop-e-init c =
@@ -26,28 +26,28 @@ loop-e-preserved c =
     let inv = c.loop-e.invariant in
     let wf = c.requires.sized.1 in
     let e< : c.loop-e.e + 1 ≤ c.count_entries-l.result = omega arith in
-    ⊎_elim
-    (λ w. (
+    elim c.if-set-e.branch
+    [ then-set-e w ↦ (
       e<,
       inv.1,
-      rw w.15 (omega arith),
-      rw w.16 (omega arith),
-      rw w.17 (omega arith),
-      rw w.18 (omega arith),
-      rw (w.15, w.16, w.17, w.18, w.19)
-          (entry_more inv.6 (omega arith, omega arith, omega arith) (omega arith) wf (omega arith) w.0.taken w.5.ensures
-          w.6.ensures),
-    ))
-    (λ w. (
+      rw w.froms-is (omega arith),
+      rw w.tos-is (omega arith),
+      rw w.codes-is (omega arith),
+      rw w.names-is (omega arith),
+      rw (w.froms-is, w.tos-is, w.codes-is, w.names-is, w.m-is)
+          (entry_more inv.6 (omega arith, omega arith, omega arith) (omega arith) wf (omega arith) w.if-set-e.true w.entry_at.ensures
+          w.list_entry-m.ensures),
+    )
+    | else-set-e w ↦ (
       e<,
       inv.1,
-      rw w.1 inv.2,
-      rw w.2 inv.3,
-      rw w.3 inv.4,
-      rw w.4 inv.5,
-      rw (w.1, w.2, w.3, w.4, w.5) (entry-skipped w.0.left inv.6),
-    ))
-    c.if-set-e.branch
+      rw w.froms-is inv.2,
+      rw w.tos-is inv.3,
+      rw w.codes-is inv.4,
+      rw w.names-is inv.5,
+      rw (w.froms-is, w.tos-is, w.codes-is, w.names-is, w.m-is) (entry-skipped w.if-set-e.false inv.6),
+    )
+    ]
 
 pub returns : goal.returns
 returns c =

@@ -2,7 +2,6 @@
 -- Assumes nothing.
 use Prim.Native.Nat.{ℕ, ◌+◌, ◌-◌}
 use mathlib.Core.Path.{◌≡◌, refl, ◌∙◌}
-use mathlib.Core.Logic.{⊎_elim}
 use mathlib.Core.List.{List}
 use lib.ListN.{set, drop, length-set, length-drop}
 use lib.Seq.{get_or-set_other, drop-set-add}
@@ -11,6 +10,7 @@ use Rattle.big.specs.Big.{Kept}
 use Rattle.order.proofs.Lists.{listed-none, listed_in, listed-out}
 use Rattle.listing.proofs.Named.{named}
 use Rattle.listing.proofs.clashes.Goals as goal
+use Rattle.listing.proofs.clashes.Goals.{then-marks-x, else-marks-x}
 
 kept_more : {old b : List ℕ} {k : ℕ} (x : ℕ) → Kept old b 8 k → Kept old (set b (8 + k) x) 8 (k + 1)
 kept_more {old} {b} {k} x K = record {
@@ -24,16 +24,16 @@ loop-x-init c = (omega arith, omega arith, refl, listed-none _ _, record { befor
 pub loop-x-preserved : goal.loop-x-preserved
 loop-x-preserved c =
     let loop = c.loop-x in
-    ⊎_elim
-    (λ w. rw (w.1, w.2) (
+    elim c.if-marks-x.branch
+    [ then-marks-x w ↦ rw (w.room-is, w.k-is) (
       omega arith,
       omega arith,
       simp length-set (omega arith),
-      rw (drop-set-add 8 loop.room loop.k loop.x) (listed_in _ (drop 8 loop.room) loop.x loop.k w.0.taken (simp length-drop (omega arith)) loop.invariant.3),
+      rw (drop-set-add 8 loop.room loop.k loop.x) (listed_in _ (drop 8 loop.room) loop.x loop.k w.if-marks-x.true (simp length-drop (omega arith)) loop.invariant.3),
       kept_more loop.x loop.invariant.4,
-    ))
-    (λ w. rw (w.1, w.2) (omega arith, omega arith, loop.invariant.2, listed-out _ (drop 8 loop.room) loop.x loop.k w.0.left loop.invariant.3, loop.invariant.4))
-    c.if-marks-x.branch
+    )
+    | else-marks-x w ↦ rw (w.room-is, w.k-is) (omega arith, omega arith, loop.invariant.2, listed-out _ (drop 8 loop.room) loop.x loop.k w.if-marks-x.false loop.invariant.3, loop.invariant.4)
+    ]
 
 pub returns : goal.returns
 returns c =

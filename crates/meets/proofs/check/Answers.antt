@@ -10,7 +10,7 @@ use Rattle.meets.proofs.check.Tie as tie
 use Rattle.meets.proofs.check.Goals as goal
 
 abbrev After-count_terms : Type 0
-After-count_terms = lts.After-count_terms tie.the-claims reads.Pre reads.Post
+After-count_terms = lts.After-count_terms tie.the-claims reads.Pre reads.Post tie.handed_clauses
 
 pub limits-requires : goal.limits-requires
 limits-requires c =

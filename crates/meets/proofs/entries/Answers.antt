@@ -3,7 +3,6 @@
 use Prim.Native.Nat.{◌-◌}
 use mathlib.Core.Path.{sym, ◌∙◌}
 use mathlib.Core.Bool.{true≢false}
-use mathlib.Core.Logic.{⊎_elim}
 use native.Mathlib.Omega.{arith}
 use borrow.Author.Tests.{not-true, not-false}
 use Rattle.sheet.specs.Decode.{sheet_of}
@@ -11,6 +10,7 @@ use Rattle.sheet.proofs.Below.{entry-below}
 use Rattle.meaning.proofs.Decides.{shown, refuted}
 use Rattle.meets.proofs.Counted.{entry-told, entries_none, entries-more}
 use Rattle.meets.proofs.entries.Goals as goal
+use Rattle.meets.proofs.entries.Goals.{then-set-e+else-not-entry_true, else-set-e}
 
 pub loop-e-init : goal.loop-e-init
 loop-e-init c = (omega arith, c.count_entries-l.ensures.0, entries_none)
@@ -34,9 +34,11 @@ loop-e-preserved c =
       omega arith,
       c.loop-e.invariant.1,
       entries-more c.loop-e.invariant.2
-          (⊎_elim (λ w m. (entry-told (sheet_of args.sheet.now) args.d c.loop-e.e args.v.now
-          c.requires.t_value.0 w.1.ensures w.2.ensures).yes (not-false _ w.3.left))
-          (λ w m. absurd (true≢false (sym m ∙ w.left))) c.if-set-e.branch),
+          (elim c.if-set-e.branch
+    [ then-set-e+else-not-entry_true w ↦ (λ m. (entry-told (sheet_of args.sheet.now) args.d c.loop-e.e args.v.now
+          c.requires.t_value.0 w.entry_at.ensures w.entry_true.ensures).yes (not-false _ w.if-not-entry_true.false))
+    | else-set-e w ↦ (λ m. absurd (true≢false (sym m ∙ w.if-set-e.false)))
+    ]),
     )
 
 pub returns : goal.returns

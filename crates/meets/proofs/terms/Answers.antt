@@ -24,13 +24,13 @@ use Rattle.meets.proofs.terms.Tie as tie
 use Rattle.meets.proofs.terms.Goals as goal
 
 abbrev After-term_at : Type 0
-After-term_at = lts.After-term_at tie.the-claims reads.Pre reads.Post goal.the-invariant-loop-i goal.the-decreases-loop-i
+After-term_at = lts.After-term_at tie.the-claims reads.Pre reads.Post goal.the-invariant-loop-i goal.the-decreases-loop-i tie.handed_clauses
 
 abbrev After-input_of : Type 0
-After-input_of = lts.After-input_of tie.the-claims reads.Pre reads.Post goal.the-invariant-loop-i goal.the-decreases-loop-i
+After-input_of = lts.After-input_of tie.the-claims reads.Pre reads.Post goal.the-invariant-loop-i goal.the-decreases-loop-i tie.handed_clauses
 
 abbrev After-defined : Type 0
-After-defined = lts.After-defined tie.the-claims reads.Pre reads.Post goal.the-invariant-loop-i goal.the-decreases-loop-i
+After-defined = lts.After-defined tie.the-claims reads.Pre reads.Post goal.the-invariant-loop-i goal.the-decreases-loop-i tie.handed_clauses
 
 -- what the term that is read lets the other functions ask for
 asked : (c : After-term_at) → let args = c.args in

@@ -15,7 +15,7 @@ use Rattle.needed.proofs.arguments.Tie as tie
 use Rattle.needed.proofs.arguments.Goals as goal
 
 abbrev After-fields_at2 : Type 0
-After-fields_at2 = lts.After-fields_at2 tie.the-claims reads.Pre reads.Post
+After-fields_at2 = lts.After-fields_at2 tie.the-claims reads.Pre reads.Post tie.handed_clauses
 
 abbrev label_of : After-fields_at2 → ℕ → ℕ
 label_of r = cell r.args.labels.now r.args.t

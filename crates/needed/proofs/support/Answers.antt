@@ -14,7 +14,7 @@ use Rattle.needed.proofs.support.Tie as tie
 use Rattle.needed.proofs.support.Goals as goal
 
 abbrev After-how : Type 0
-After-how = lts.After-how tie.the-claims reads.Pre reads.Post
+After-how = lts.After-how tie.the-claims reads.Pre reads.Post tie.handed_clauses
 
 one_more : (k : ℕ) → (k ≡ 0 → ⊥) → k ≡ suc (k - 1)
 one_more zero n = absurd (n refl)

@@ -2,7 +2,6 @@
 -- Assumes nothing.
 use Prim.Native.Nat.{◌+◌, ◌-◌, ◌≤◌}
 use mathlib.Core.Path.{◌≡◌, refl, sym, ◌∙◌}
-use mathlib.Core.Logic.{⊎_elim}
 use lib.ListN.{length-set}
 use lib.Seq.{get_or-set_other}
 use native.Mathlib.Omega.{arith}
@@ -11,6 +10,7 @@ use Rattle.reasons.specs.Pruned.{rank}
 use Rattle.reasons.proofs.Rank.{rank-zero}
 use Rattle.paper.proofs.Ranks.{rank-more, rank_same, ranked-none, ranked-more}
 use Rattle.paper.proofs.rank.Goals as goal
+use Rattle.paper.proofs.rank.Goals.{then-need-t, else-need-t}
 
 pub loop-t-init : goal.loop-t-init
 loop-t-init c = (omega arith, omega arith, refl, sym (rank-zero _), ranked-none _ _, λ u l. refl)
@@ -20,10 +20,10 @@ loop-t-preserved c =
     let loop = c.loop-t in
     let need = c.args.need.now in
     let k : (c.if-need-t.k ≤ loop.t + 1) × (c.if-need-t.k ≡ rank (marked need) (loop.t + 1)) =
-    ⊎_elim
-    (λ w. rw w.1 (omega arith, rank-more _ _ w.0.taken loop.invariant.3))
-    (λ w. rw w.1 (omega arith, rank_same _ _ w.0.left loop.invariant.3))
-    c.if-need-t.branch in (
+    elim c.if-need-t.branch
+    [ then-need-t w ↦ rw w.k-is (omega arith, rank-more _ _ w.if-need-t.true loop.invariant.3)
+    | else-need-t w ↦ rw w.k-is (omega arith, rank_same _ _ w.if-need-t.false loop.invariant.3)
+    ] in (
       k.0,
       omega arith,
       simp length-set loop.invariant.2,

@@ -2,13 +2,13 @@
 -- Assumes nothing.
 use Prim.Native.Nat.{◌-◌}
 use mathlib.Core.Path.{◌≡◌, refl}
-use mathlib.Core.Logic.{⊎_elim}
 use native.Mathlib.Omega.{arith}
 use Rattle.order.specs.First.{marked}
 use Rattle.reasons.specs.Pruned.{rank}
 use Rattle.paper.proofs.Ranks.{rank-low, rank-more, rank_same, tie-renamed}
 use Rattle.paper.proofs.Kept.{tie_none, tie-kept, tie-left}
 use Rattle.paper.proofs.ties.Goals as goal
+use Rattle.paper.proofs.ties.Goals.{then-need-t, else-need-t}
 
 pub loop-t-init : goal.loop-t-init
 loop-t-init c = (omega arith, omega arith, tie_none _ _ _ _)
@@ -28,20 +28,20 @@ pub loop-t-preserved : goal.loop-t-preserved
 loop-t-preserved c =
     let loop = c.loop-t in
     let keep = marked c.args.need.now in
-    ⊎_elim
-    (λ w. rw (w.6, w.7) (
+    elim c.if-need-t.branch
+    [ then-need-t w ↦ rw (w.room-is, w.at-is) (
       omega arith,
-      omega (arith, w.3.ensures.1, rank-more keep loop.t {k = rank keep loop.t} w.0.taken refl),
-      tie-kept keep _ loop.t w.0.taken loop.invariant.2
+      omega (arith, w.at-is.ensures.1, rank-more keep loop.t {k = rank keep loop.t} w.if-need-t.true refl),
+      tie-kept keep _ loop.t w.if-need-t.true loop.invariant.2
           (tie-renamed keep _ _ c.args.ties.now _ loop.t c.args.count c.loop-t-test.true c.requires.ranked
-          (c.requires.by_index loop.t c.loop-t-test.true w.0.taken) w.3.ensures.0),
-    ))
-    (λ w. rw (w.1, w.2) (
+          (c.requires.by_index loop.t c.loop-t-test.true w.if-need-t.true) w.at-is.ensures.0),
+    )
+    | else-need-t w ↦ rw (w.room-is, w.at-is) (
       omega arith,
-      omega (arith, rank_same keep loop.t {k = rank keep loop.t} w.0.left refl),
-      tie-left keep _ loop.t w.0.left loop.invariant.2,
-    ))
-    c.if-need-t.branch
+      omega (arith, rank_same keep loop.t {k = rank keep loop.t} w.if-need-t.false refl),
+      tie-left keep _ loop.t w.if-need-t.false loop.invariant.2,
+    )
+    ]
 
 pub returns : goal.returns
 returns c =

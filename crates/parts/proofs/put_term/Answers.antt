@@ -1,21 +1,19 @@
 -- `parts::put_term` meets its contract, kind by kind.
 -- Assumes nothing.
-use Prim.Native.Nat.{ℕ, ◌<◌}
-use mathlib.Core.Path.{sym, ◌∙◌}
+use Prim.Native.Nat.{ℕ}
+use mathlib.Core.Path.{◌≡◌, refl, sym, ◌∙◌}
 use mathlib.Core.Bool.{true}
-use mathlib.Core.List.{List, [], ◌∷◌}
-use mathlib.Core.Logic.{⊎_elim}
+use mathlib.Core.List.{List}
 use lib.IntN.{ℤ, +ℤ_idl}
 use native.Mathlib.Omega.{arith}
-use denote.Enum.Declared.{tag_of}
-use types.Run.{OneOf}
 use Rattle.closure.specs.Table.{Table}
 use Rattle.cells.specs.Cells.{cell}
+use Rattle.sheet.specs.declared.Biased.{Biased}
+use Rattle.sheet.specs.declared.TermNumber.{TermNumber}
 use Rattle.sheet.specs.declared.Term.{Term as Code-Term}
 use Rattle.sheet.specs.declared.Term.TheVariants.{Unknown, Number, Shift, Apply, Apply2}
 use Rattle.sheet.specs.Sheet.{number}
 use Rattle.sheet.specs.Says.{term_says}
-use Rattle.sheet.specs.contracts.Term as code
 use Rattle.sheet.proofs.Below.{shifted}
 use Rattle.settled.specs.Settled.{TermHeld}
 use Rattle.steps.specs.Step.{Stepped}
@@ -28,20 +26,13 @@ number-tied : {z i D : ℕ} {c : ℤ} {v : ℕ → ℤ} → TermTrue z i (number
 number-tied q = record { tied = rw q.zero (q.defined ∙ sym (+ℤ_idl _)) }
 
 -- the last arm: the kinds of term that have no bounds
-not-tied : (k : ℕ) → 0 < k → k < 3 → OneOf (0 ∷ 3 ∷ 4 ∷ []) k → ⊥
-not-tied k l u = ⊎_elim (λ e. omega arith) (⊎_elim (λ e. omega arith) (λ e. omega arith))
-
-free : (t : Code-Term) {n z i : ℕ} {d : List ℕ} → OneOf (0 ∷ 3 ∷ 4 ∷ []) (tag_of code.the_type t) → Table n (cell d)
+free : (t : Code-Term) {n z i : ℕ} {d : List ℕ} → ((c : Biased) → t ≡ Number c → ⊥) → ((a : TermNumber) (c : Biased) → t ≡ Shift a c → ⊥) → Table n (cell d)
     → Stepped n (TermTrue z i (term_says t)) (λ k. TermHeld k z i (term_says t)) d d true
-free Unknown k T = stayed T tt
-
-free (Number c) k T = absurd (not-tied 1 (omega arith) (omega arith) k)
-
-free (Shift a c) k T = absurd (not-tied 2 (omega arith) (omega arith) k)
-
-free (Apply s a) k T = stayed T tt
-
-free (Apply2 s a b) k T = stayed T tt
+free Unknown h k T = stayed T tt
+free (Number c) h k T = absurd (h c refl)
+free (Shift a c) h k T = absurd (k a c refl)
+free (Apply s a) h k T = stayed T tt
+free (Apply2 s a b) h k T = stayed T tt
 
 pub put_tie-requires-in-Shift : goal.put_tie-requires-in-Shift
 put_tie-requires-in-Shift c =
@@ -60,4 +51,4 @@ returns-in-Shift c =
     (changed (λ D v q. record { tied = q.defined }) (λ d h. h) c.put_tie-in-Shift.ensures)
 
 pub returns-in_default : goal.returns-in_default
-returns-in_default c = free c.args.t c.in_default.in_default-own.keys3 c.requires.table
+returns-in_default c = free c.args.t c.in_default.not-Number c.in_default.not-Shift c.requires.table

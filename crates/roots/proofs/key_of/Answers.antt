@@ -35,4 +35,4 @@ returns-in-Apply2 c =
     rw c.in-Apply2.is (for-apply2 first second refl, omega (arith, first.within, second.within))
 
 pub returns-in_default : goal.returns-in_default
-returns-in_default c = no-input _ c.args.t c.in_default.in_default-own.keys3
+returns-in_default c = no-input _ c.args.t c.in_default.not-Apply c.in_default.not-Apply2

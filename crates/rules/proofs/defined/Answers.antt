@@ -23,4 +23,4 @@ pub returns-in-Shift : goal.returns-in-Shift
 returns-in-Shift c = rw c.in-Shift.is (value-equal _ _ _ _ _ c.related-in-Shift.ensures)
 
 pub returns-in_default : goal.returns-in_default
-returns-in_default c = ruleless _ _ _ c.args.x c.in_default.in_default-own.keys3
+returns-in_default c = ruleless _ _ _ c.args.x c.in_default.not-Number c.in_default.not-Shift

@@ -18,13 +18,13 @@ use Rattle.surveyor.proofs.go_through.Tie as tie
 use Rattle.surveyor.proofs.go_through.Goals as goal
 
 abbrev After-ruling_on : Type 0
-After-ruling_on = lts.After-ruling_on tie.the-claims reads.Pre reads.Post goal.the-invariant-loop-n goal.the-decreases-loop-n
+After-ruling_on = lts.After-ruling_on tie.the-claims reads.Pre reads.Post goal.the-invariant-loop-n goal.the-decreases-loop-n tie.handed_clauses
 
 abbrev At-loop : Type 0
-At-loop = lts.At-loop tie.the-claims reads.Pre reads.Post goal.the-invariant-loop-n goal.the-decreases-loop-n
+At-loop = lts.At-loop tie.the-claims reads.Pre reads.Post goal.the-invariant-loop-n goal.the-decreases-loop-n tie.handed_clauses
 
 abbrev After-enum_told3 : Type 0
-After-enum_told3 = lts.After-enum_told3 tie.the-claims reads.Pre reads.Post goal.the-invariant-loop-n goal.the-decreases-loop-n
+After-enum_told3 = lts.After-enum_told3 tie.the-claims reads.Pre reads.Post goal.the-invariant-loop-n goal.the-decreases-loop-n tie.handed_clauses
 
 there : (c : After-ruling_on) → c.loop-n.n < length c.args.steps.now
 there c = omega (arith, c.loop-n-test.true, c.count-count.ensures)

@@ -1,12 +1,12 @@
 -- `surveyor::rises` meets its contract. The loop's invariant: the first x numbers rise below L and are those marked.
 -- Assumes nothing.
 use Prim.Native.Nat.{◌-◌}
-use mathlib.Core.Logic.{⊎_elim}
 use native.Mathlib.Omega.{arith}
 use borrow.Author.Tests.{leb-true, leb-false}
 use Rattle.surveyor.specs.Inside.{RisesSays}
 use Rattle.surveyor.proofs.Marking.{none_yet, one_more, falls, none_left}
 use Rattle.surveyor.proofs.rises.Goals as goal
+use Rattle.surveyor.proofs.rises.Goals.{then-e-least-via-then-e-least, then-e-least-via-else-e-least+then-entries-e}
 
 pub loop-x-init : goal.loop-x-init
 loop-x-init c = (omega arith, rw c.requires (none_yet _ _))
@@ -14,8 +14,10 @@ loop-x-init c = (omega arith, rw c.requires (none_yet _ _))
 pub returns-then-e-least : goal.returns-then-e-least
 unfolding RisesSays
 returns-then-e-least c =
-    λ R. ⊎_elim (λ t. falls c.loop-x.invariant.1 c.loop-x-test.true t.taken R)
-    (λ t. let l = R.below _ c.loop-x-test.true in omega (arith, leb-true)) c.then-e-least.branch
+    λ R. (elim c.then-e-least.branch
+    [ then-e-least-via-then-e-least t ↦ falls c.loop-x.invariant.1 c.loop-x-test.true t.if-e-least.true R
+    | then-e-least-via-else-e-least+then-entries-e t ↦ let l = R.below _ c.loop-x-test.true in omega (arith, leb-true)
+    ])
 
 pub overflow_cast-listed : goal.overflow_cast-listed
 overflow_cast-listed c = omega (arith, c.shared_slice_known-1.given c.loop-x.x)

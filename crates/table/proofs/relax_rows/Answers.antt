@@ -34,7 +34,7 @@ gap_at-requires c =
 pub sum-via-requires : goal.sum-via-requires
 sum-via-requires c =
     rw c.gap_at.ensures
-    (first c.args.n _ _ _ _ (asked c.requires) c.loop-i.d c.loop-i.i c.loop-i-test.true c.loop-i.invariant.2)
+    (first c.args.n _ _ _ _ (asked (c.requires.d_len, (c.requires.g_lt_none, c.requires.table))) c.loop-i.d c.loop-i.i c.loop-i-test.true c.loop-i.invariant.2)
 
 pub relax_row-requires : goal.relax_row-requires
 relax_row-requires c =
@@ -44,8 +44,8 @@ relax_row-requires c =
     let row = c.row_of-row in
     let i< : c.loop-i.i < c.args.n = c.loop-i-test.true in record {
       d_len = (c.loop-i.invariant.1 ∙ size.0, within i< size.1, within size.3 size.1, past.ensures.0, up_to past.ensures.1 size.1);
-      by_index = λ j p q. second _ _ _ _ _ (asked c.requires) c.loop-i.d c.loop-i.i i< c.loop-i.invariant.2 row.result _ via row.ensures j (within q past.ensures.1);
-      j_bound = λ h j p q. skipped _ _ _ _ _ (asked c.requires) c.loop-i.d c.loop-i.i i< c.loop-i.invariant.2 row.result _ via row.ensures h j (within q past.ensures.1);
+      by_index = λ j p q. second _ _ _ _ _ (asked (c.requires.d_len, (c.requires.g_lt_none, c.requires.table))) c.loop-i.d c.loop-i.i i< c.loop-i.invariant.2 row.result _ via row.ensures j (within q past.ensures.1);
+      j_bound = λ h j p q. skipped _ _ _ _ _ (asked (c.requires.d_len, (c.requires.g_lt_none, c.requires.table))) c.loop-i.d c.loop-i.i i< c.loop-i.invariant.2 row.result _ via row.ensures h j (within q past.ensures.1);
     }
 
 pub loop-i-smaller : goal.loop-i-smaller
@@ -58,7 +58,7 @@ loop-i-preserved c =
     let i< : c.loop-i.i < c.args.n = c.loop-i-test.true in (
       next i<,
       c.relax_row.auto.d ∙ c.loop-i.invariant.1,
-      more _ _ _ _ _ (asked c.requires) c.loop-i.d c.loop-i.i i< c.loop-i.invariant.2 row.result _ via row.ensures _ _ c.past_there-to.ensures.1 c.first_there-from.ensures.1 c.past_there-to.ensures.2 _
+      more _ _ _ _ _ (asked (c.requires.d_len, (c.requires.g_lt_none, c.requires.table))) c.loop-i.d c.loop-i.i i< c.loop-i.invariant.2 row.result _ via row.ensures _ _ c.past_there-to.ensures.1 c.first_there-from.ensures.1 c.past_there-to.ensures.2 _
           c.relax_row.ensures,
     )
 

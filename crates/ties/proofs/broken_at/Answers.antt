@@ -30,4 +30,4 @@ returns-in-Unequal c =
 
 pub returns-in_default : goal.returns-in_default
 returns-in_default c =
-    rest (not-false _ c.if-not-set-e.false-raw) (rw (← c.entry_at-entry.ensures) (other-told c.entry_at-entry.result c.in_default.in_default-own.keys2))
+    rest (not-false _ c.if-not-set-e.false-raw) (rw (← c.entry_at-entry.ensures) (other-told c.entry_at-entry.result c.in_default.not-Unequal))

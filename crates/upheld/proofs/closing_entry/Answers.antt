@@ -1,13 +1,10 @@
 -- `upheld::closing_entry` meets its contract: what is told at each place where it answers (proofs/Rules.antt).
 -- Assumes nothing.
 use Prim.Native.Nat.{ℕ}
-use mathlib.Core.Path.{◌≡◌, ◌∙◌, ap}
-use mathlib.Core.List.{[], ◌∷◌}
+use mathlib.Core.Path.{◌≡◌, refl, ◌∙◌, ap}
 use mathlib.Core.Bool.{not, ◌||◌}
 use native.Mathlib.Omega.{arith}
 use borrow.Author.Tests.{not-true, not-false}
-use denote.Enum.Declared.{tag_of}
-use types.Run.{OneOf, miss}
 use lib.Dec.{leb, eqb}
 use lib.ListN.{get_or}
 use Rattle.big.specs.Big.{Bytes}
@@ -16,7 +13,6 @@ use Rattle.sheet.specs.Sheet.{unequal, Entry}
 use Rattle.sheet.specs.declared.Relation.{Relation as Code-Relation}
 use Rattle.sheet.specs.declared.Relation.TheVariants.{Equal, Unequal, AtMost, Less}
 use Rattle.sheet.specs.Says.{relation_says, entry_says}
-use Rattle.sheet.specs.contracts.Relation as code
 use Rattle.sheet.proofs.Decode.{entries-stated}
 use Rattle.probes.proofs.Tests.{same}
 use Rattle.upheld.proofs.Spares.{Spares, above, unless, neither}
@@ -30,13 +26,10 @@ abbrev After-struct_known5 : Type 0
 After-struct_known5 = lts.After-struct_known5 tie.the-claims reads.Pre reads.Post
 
 -- the last arm: the relations that aren't ≠
-other : (r : Code-Relation) → OneOf (0 ∷ 2 ∷ 3 ∷ []) (tag_of code.the_type r) → relation_says r ≡ unequal → ⊥
+other : (r : Code-Relation) → (r ≡ Unequal → ⊥) → relation_says r ≡ unequal → ⊥
 other Equal k e = let z : ◌≡◌ {A = ℕ} 0 1 = cc in omega arith
-
-other Unequal k e = miss (0 ∷ 2 ∷ 3 ∷ []) 1 tt k
-
+other Unequal k e = k refl
 other AtMost k e = let z : ◌≡◌ {A = ℕ} 0 1 = cc in omega arith
-
 other Less k e = let z : ◌≡◌ {A = ℕ} 0 1 = cc in omega arith
 
 bytes : (c : After-struct_known5) → Bytes c.args.sheet.now
@@ -78,4 +71,4 @@ returns-in-Unequal c =
 pub returns-in_default : goal.returns-in_default
 returns-in_default c =
     entry_other c.requires.0 c.args.s c.requires.2 (marked c.args.listed.now)
-    (λ e. other c.entry_at-entry.result.relation c.in_default.in_default-own.keys2 (ap (λ (x : Entry). x.relation) c.entry_at-entry.ensures ∙ e))
+    (λ e. other c.entry_at-entry.result.relation c.in_default.not-Unequal (ap (λ (x : Entry). x.relation) c.entry_at-entry.ensures ∙ e))

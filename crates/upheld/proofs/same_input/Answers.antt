@@ -1,13 +1,12 @@
 -- `upheld::same_input` meets its contract, kind by kind (proofs/Inputs.antt).
 -- Assumes nothing.
 use mathlib.Core.Path.{sym, ◌∙◌, subst}
-use mathlib.Core.List.{[], ◌∷◌}
-use mathlib.Core.Logic.{⊎_elim}
 use borrow.Author.Tests.{eqb-true, ne_eqb}
 use Rattle.probes.specs.Probes.{TiedAtSays}
 use Rattle.upheld.specs.Ruled.{TellsInput}
-use Rattle.upheld.proofs.Inputs.{one_told, one_symbol, two-told, two-first, two-symbol, other-kind, no-application}
+use Rattle.upheld.proofs.Inputs.{one_told, one_symbol, two-told, two-first, two-symbol, not-one, not-two, no-application}
 use Rattle.upheld.proofs.same_input.Goals as goal
+use Rattle.upheld.proofs.same_input.Goals.{then-x-y-2, else-x-y-2}
 
 pub tied_at-requires : goal.tied_at-requires
 tied_at-requires c = c.requires
@@ -28,26 +27,29 @@ returns-else-x-y c =
 
 pub returns-in_default-g : goal.returns-in_default-g
 returns-in_default-g c =
-    rw c.in-Apply.is (other-kind _ c.args.g (0 ∷ 1 ∷ 2 ∷ 4 ∷ []) tt c.in_default-g.in_default-g-own.keys2)
+    rw c.in-Apply.is (not-one _ _ c.args.g c.in_default-g.not-Apply)
 
 -- the arms of the first test of two applications to two, where they have met
 pub returns-then-tied_at : goal.returns-then-tied_at
 returns-then-tied_at c =
     rw (c.in-Apply2.is, c.in-Apply2-g.is)
-    (⊎_elim
-    (λ w. two-told w.0.taken (subst (TiedAtSays _ _ _ _) (sym w.2 ∙ c.if-tied_at.true) w.1.ensures) c.tied_at-then-tied_at.ensures)
-    (λ w. absurd (w.0.left (eqb-true _ _ (sym w.1 ∙ c.if-tied_at.true)))) c.if-x-y-2.branch)
+    (elim c.if-x-y-2.branch
+    [ then-x-y-2 w ↦ two-told w.if-x-y-2.true (subst (TiedAtSays _ _ _ _) (sym w.value-is ∙ c.if-tied_at.true) w.tied_at-then-x-y-2.ensures) c.tied_at-then-tied_at.ensures
+    | else-x-y-2 w ↦ absurd (w.if-x-y-2.false (eqb-true _ _ (sym w.value-is ∙ c.if-tied_at.true)))
+    ])
 
 pub returns-else-tied_at : goal.returns-else-tied_at
 returns-else-tied_at c =
     subst (TellsInput _ _ _) (sym c.if-tied_at.false)
     (rw (c.in-Apply2.is, c.in-Apply2-g.is)
-    (⊎_elim (λ w. two-first (subst (TiedAtSays _ _ _ _) (sym w.2 ∙ c.if-tied_at.false) w.1.ensures)) (λ w. two-symbol w.0.left)
-    c.if-x-y-2.branch))
+    (elim c.if-x-y-2.branch
+    [ then-x-y-2 w ↦ two-first (subst (TiedAtSays _ _ _ _) (sym w.value-is ∙ c.if-tied_at.false) w.tied_at-then-x-y-2.ensures)
+    | else-x-y-2 w ↦ two-symbol w.if-x-y-2.false
+    ]))
 
 pub returns-in_default-g-2 : goal.returns-in_default-g-2
 returns-in_default-g-2 c =
-    rw c.in-Apply2.is (other-kind _ c.args.g (0 ∷ 1 ∷ 2 ∷ 3 ∷ []) tt c.in_default-g-2.in_default-g-2-own.keys2)
+    rw c.in-Apply2.is (not-two _ _ _ c.args.g c.in_default-g-2.not-Apply2)
 
 pub returns-in_default : goal.returns-in_default
-returns-in_default c = no-application c.args.f _ c.in_default.in_default-own.keys3
+returns-in_default c = no-application c.args.f _ c.in_default.not-Apply c.in_default.not-Apply2

@@ -12,7 +12,7 @@ use Rattle.values.proofs.least.Tie as tie
 use Rattle.values.proofs.least.Goals as goal
 
 abbrev After-loop : Type 0
-After-loop = lts.After-loop tie.the-claims reads.Pre reads.Post goal.the-invariant-loop-s goal.the-decreases-loop-s
+After-loop = lts.After-loop tie.the-claims reads.Pre reads.Post goal.the-invariant-loop-s goal.the-decreases-loop-s tie.handed_clauses
 
 halves : (x y z : ℕ) → z ≡ min x y → whole_at z ≡ min (whole_at x) (whole_at y)
 halves x y z e = omega arith
