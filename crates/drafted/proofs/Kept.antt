@@ -14,7 +14,7 @@ use lib.IntN.{ℤ, pos}
 use lib.ListN.{get_or}
 use native.Mathlib.Omega.{arith}
 use Rattle.order.specs.First.{Set, marked}
-use Rattle.sheet.specs.Sheet.{Term, Sheet, term_at, entry_at, WellFormed}
+use Rattle.sheet.specs.Sheet.{Term, apply, apply2, Sheet, term_at, entry_at, WellFormed}
 use Rattle.meaning.specs.Meaning.{SameInput, one, two}
 use Rattle.reasons.specs.Step.{Bound, Step, by_walks, by_functions, closing_walk, closing_entry, step_at, walks_of}
 use Rattle.reasons.specs.Rules.{Point, Ties, Tied, Apart, Level, TieWithin, TieRight}
@@ -137,11 +137,17 @@ module _ {s : Sheet} {S : Set} {froms tos codes names ties labels : List ℕ} {m
       on-path {u = u} P T h =
           P.on u (rw (one-path steps t (λ v k. joins v (omega arith)) T (P.tied steps (fits-before t l))).1 at h)
 
+      one-on : {x y a b : ℕ} → SameInput (PathOn ties t need') (apply x a) (apply y b) → PathOn ties t need' a b
+      one-on (one P) = P
+
+      two-on : {x y a b c d : ℕ} → SameInput (PathOn ties t need') (apply2 x a b) (apply2 y c d) → PathOn ties t need' a c × PathOn ties t need' b d
+      two-on (two P Q) = (P, Q)
+
       between-kept : {x y : Term} {u : ℕ} {path : List ℕ} → SameInput (PathOn ties t need') x y → Between steps t x y path → In u path →
           marked need' u ≡ true
-      between-kept (one P) (only T) h = on-path P T h
-      between-kept (two P Q) (first T) h = on-path P T h
-      between-kept (two P Q) (second T) h = on-path Q T h
+      between-kept S (only T) h = on-path (one-on S) T h
+      between-kept S (first T) h = on-path (two-on S).0 T h
+      between-kept S (second T) h = on-path (two-on S).1 T h
 
       functions-kept : {a b u : ℕ} → SameInput (PathOn ties t need') (term_at s a) (term_at s b) → Rests s steps t (by_functions a b) u →
           marked need' u ≡ true

@@ -73,8 +73,11 @@ module _ {s : Sheet} {S : Set} where
   over_any (tie-back l h) = absurd (omega arith)
 
   over-no-tie : {i j t : ℕ} {b : Bound} {g : Kind} → Over s S [] 0 b i j g → OfTie b t → ⊥
-  over-no-tie (a-tie l h) forwards = omega arith
-  over-no-tie (tie-back l h) backwards = omega arith
+  over-no-tie o of = go of o
+    where
+      go : {i j t : ℕ} {b : Bound} {g : Kind} → OfTie b t → Over s S [] 0 b i j g → ⊥
+      go forwards (a-tie l h) = omega arith
+      go backwards (tie-back l h) = omega arith
 
   over-as : {steps : List Step} {n i i' j j' : ℕ} {b b' : Bound} {g g' : Kind} → b ≡ b' → i ≡ i' → j ≡ j' → g ≡ g' →
       Over s S steps n b' i' j' g' → Over s S steps n b i j g

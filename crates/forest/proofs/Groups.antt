@@ -30,7 +30,7 @@ zeros {c} {d} {e} p q r =
     ap (λ (x : ℤ). x +ℤ (d +ℤ e)) p ∙ ap (λ (x : ℤ). pos 0 +ℤ (x +ℤ e)) q ∙ ap (λ (x : ℤ). pos 0 +ℤ (pos 0 +ℤ x)) r
 
 module _ {n : ℕ} {ties labels : List ℕ} where
-  pub tied-together : {t i j : ℕ} {c : ℤ} {path : List ℕ} {steps : List Step} → Labelled n ties labels t → Fits ties t steps → Tied steps t i j c path → i < n →
+  pub tied-together : {steps : List Step} {t i j : ℕ} {c : ℤ} {path : List ℕ} → Labelled n ties labels t → Fits ties t steps → Tied steps t i j c path → i < n →
       (j < n) × (cell labels t i ≡ cell labels t j) × (c ≡ pos 0)
   tied-together L F itself l = (l, refl, refl)
   tied-together L F (before {n = t} {i = i} {j = j} T) l =

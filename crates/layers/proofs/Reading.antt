@@ -68,7 +68,7 @@ module _ (B : Bounds) (n : ℕ) (S : Sound n B) (best : List ℕ) (a last : ℕ)
   chosen L t e l = ⊎_elim (λ f. absurd (omega (arith, up_is))) (λ o. rw (e ∙ up_is) o) (L.one i R.inside)
 
   pub kept-or : Layered B B.count n (cell best g) (cell best (g + 1)) → (t : ℕ) → t ≡ cell best h i → cell best g i ≤ t → cell best h i ≡ cell best g i
-  kept-or L t e l = omega (arith, up_is, L.at_most i R.inside)
+  kept-or L t e l = omega (arith, up_is, L.at-most i R.inside)
 
   -- a bound on, and a row down
   pub on : (e t : ℕ) → t ≡ cell best h i → Addable (code B e) (cell best g (to B e)) → Chosen B (cell best g) i t e → k < length out

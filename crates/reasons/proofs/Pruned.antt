@@ -64,6 +64,8 @@ module _ (keep : Set) where
   ties-old : (k : Step) {a b : ℕ} {c : ℤ} → Ties (renamed keep k) a b c → Ties k a b c
   ties-old (by_walks a b c p q) walks = walks
   ties-old (by_functions a b) functions = functions
+  ties-old (closing_walk a round) h = elim h [ ]
+  ties-old (closing_entry e) h = elim h [ ]
 
 -- some path ties i to j with the gap c
 record Joined (steps : List Step) (n i j : ℕ) (c : ℤ) : Type 0 where

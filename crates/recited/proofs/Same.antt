@@ -28,7 +28,7 @@ same-lower h S = record { each = λ t l. S.each t (omega arith) }
 one_less : {n : ℕ} {steps others : List Step} → SameBelow (suc n) steps others → SameBelow n steps others
 one_less S = same-lower (omega arith) S
 
-tied-same : {n i j : ℕ} {c : ℤ} {p : List ℕ} {steps others : List Step} → SameBelow n steps others → Tied steps n i j c p → Tied others n i j c p
+tied-same : {steps others : List Step} {n i j : ℕ} {c : ℤ} {p : List ℕ} → SameBelow n steps others → Tied steps n i j c p → Tied others n i j c p
 tied-same S itself = itself
 tied-same S (before h) = before (tied-same (one_less S) h)
 tied-same S (forth {n = n} h t k) = forth (tied-same (one_less S) h) (rw (S.each n (omega arith)) at t) (tied-same (one_less S) k)

@@ -77,9 +77,9 @@ module _ {s : Sheet} {listed : Set} {steps : List Step} {n : ℕ} {legs : List �
     unfolding each
     chain-treads x zero bounds l f stop = record { end = x; goes = stays; at-is = refl; adds = adds_none }
     chain-treads x (suc count) [] l f c = absurd (omega arith)
-    chain-treads x (suc count) (w ∷ bounds) l f (step o c) =
+    chain-treads {k} x (suc count) (w ∷ bounds) l f (step {g = g} {t = t} o c) =
         let P = over-paced wf small T x (f 0 (omega arith)) o in
-        let R = chain-treads P.end count bounds (omega arith) (λ y y<. f (suc y) (omega arith)) (rw (sym P.at-is) at c) in
+        let R = chain-treads {k = k} {total = t} P.end count bounds (omega arith) (λ y y<. f (suc y) (omega arith)) (rw (sym P.at-is) at c) in
         record { end = R.end; goes = on (f 0 (omega arith)) P.further R.goes; at-is = R.at-is; adds = adds-more P.adds R.adds }
 
 pub goes-chain : {s : Sheet} {listed : Set} {steps : List Step} {n : ℕ} {legs : List ℕ} → WellFormed s → SmallSheet s →

@@ -13,7 +13,7 @@ use lib.IntN.{ℤ}
 use native.Mathlib.Omega.{arith}
 use native.Mathlib.Decide.{ℕ_discrete}
 use borrow.Author.Tests.{eq-eqb, ne_eqb}
-use Rattle.whole.proofs.Pigeon.{Distinct, more}
+use Rattle.whole.proofs.Pigeon.{Distinct, end, more}
 use Rattle.reasons.specs.Step.{Step}
 use Rattle.reasons.specs.Rules.{Tied}
 use Rattle.reasons.specs.Rules.Tied.{itself, before, forth, back}
@@ -174,6 +174,7 @@ out-even {u} p h = go (oddly u p) (odd-in p)
     go false f = refl
 
 in-odd : {u : ℕ} {p : List ℕ} → Distinct p → In u p → oddly u p ≡ true
+in-odd end m = elim m [ ]
 in-odd {u} (more {x = t} {l = p} h D) (here e) = simp (eq-eqb u t e, out-even {u = u} p (λ m. h (rw e at m))) (xor-false-r true)
 in-odd {u} (more {x = t} {l = p} h D) (later m) = simp (ne_eqb u t (λ e. h (rw e at m)), in-odd D m) (xor-false-l true)
 

@@ -39,7 +39,7 @@ module _ {text old new : List ℕ} {N P : ℕ} (T : Transcribed text old new N P
     where
       go : Fate text old → P ≤ most
       go (short h) = omega (arith, (T.no_room h).place_is)
-      go (slip h M Q F) = omega (arith, (T.IsSent-back h M Q F).place_is, slip-place F.slip)
+      go (slip h M Q F) = omega (arith, (T.sent_back h M Q F).place_is, slip-place F.slip)
       go (sheet h m l W) = omega (arith, sheet-short W (T.transcribed h W.clean))
 
   pub sheet-within : N ≡ 0 → P ≤ sheet_room
@@ -47,5 +47,5 @@ module _ {text old new : List ℕ} {N P : ℕ} (T : Transcribed text old new N P
     where
       go : Fate text old → P ≤ sheet_room
       go (short h) = absurd (omega (arith, (T.no_room h).number_is))
-      go (slip h M Q F) = absurd (omega (arith, (T.IsSent-back h M Q F).number_is, numbers F.slip))
+      go (slip h M Q F) = absurd (omega (arith, (T.sent_back h M Q F).number_is, numbers F.slip))
       go (sheet h m l W) = sheet-short W (T.transcribed h W.clean)

@@ -178,6 +178,6 @@ shape_of-d c =
 
 pub returns : goal.returns
 returns c = record {
-  argued = argued (lists c.before.before.before.before.before.before.before.before.before.before.before.before.before.before.before.before.before.before.before) (c.by_entry.ensures.closed _ c.broken.ensures.1.0 (draft c.before.before.before.before.before.before.before.before.before.before.before.before.before.before.before.before.before.before.before));
+  argued = argued (lists c.before.before.before.before.before.before.before.before.before.before.before.before.before.before.before.before.before.before) (c.by_entry.ensures.closed _ c.broken.ensures.1.0 (draft c.before.before.before.before.before.before.before.before.before.before.before.before.before.before.before.before.before.before.before));
   kept = kept_on c.grow-g.ensures.kept c.by_entry.ensures.kept;
 }

@@ -31,15 +31,12 @@ mark_walk-requires-2 c =
     (omega (arith, back_long c.before.before.before.before.before.before.before.before.before.before, c.requires.3), c.mark_walk.ensures.size ∙ c.requires.0)
 
 -- where both rows are marked
-abbrev Walked : Type 0
-Walked  = After-mark_walk2
-
-as_long : (c : Walked) → length c.mark-walk2.new.1.1.0 ≡ length (start_of c).args.entries.now
-as_long c = c.mark-walk2.ensures.size ∙ (first_of c).mark-walk.ensures.size
+as_long : (c : After-mark_walk2) → length c.mark_walk-2.new.entries ≡ length c.args.entries.now
+as_long c = c.mark_walk-2.ensures.size ∙ c.mark_walk.ensures.size
 
 pub bounds-entries-s : goal.bounds-entries-s
 bounds-entries-s c =
-    omega (arith, as_long c.before.before.before.before.before, c.requires.0, c.well-formed)
+    omega (arith, as_long c.before.before.before.before.before, c.requires.0, c.well_formed)
 
 pub shape_of-entries-then-s-eq3 : goal.shape_of-entries-then-s-eq3
 shape_of-entries-then-s-eq3 c = simp length-set (as_long c.before.before.before.before.before)

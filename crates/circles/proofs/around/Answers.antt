@@ -8,11 +8,8 @@ use lib.Dec.{eqb}
 use native.Mathlib.Omega.{arith}
 use borrow.Author.Tests.{eq-eqb, ne_eqb}
 use Rattle.circles.specs.Circle.{next_of, step_of, even_step, is_tie}
+use Rattle.circles.proofs.around.Invariants.{big_step}
 use Rattle.circles.proofs.around.Goals as goal
-
--- more than a step can come to
-abbrev big_step : ℕ
-big_step  = 2 ^ 40
 
 taken : (b : Bool) (p q : Bool) → b ≡ true → cond b p q ≡ p
 taken true p q e = refl

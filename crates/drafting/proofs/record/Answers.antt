@@ -2,22 +2,10 @@
 -- Assumes nothing.
 use native.Mathlib.Omega.{arith}
 use borrow.Author.Tests.{lt-ltb, le-ltb}
-use Rattle.drafting.proofs.record.Lts as lts
-use Rattle.drafting.proofs.record.Reads as reads
 use Rattle.drafting.proofs.record.Goals as goal
-
-abbrev close : Type 0
-close = lts.close reads.Pre reads.Post
-
-abbrev spec : Type 0
-spec = lts.spec reads.Pre reads.Post
 
 pub returns-then-key-lt-NAMES : goal.returns-then-key-lt-NAMES
 returns-then-key-lt-NAMES c = (rw (lt-ltb _ _ c.if-key-lt-NAMES.true), omega arith)
 
 pub returns-else-key-lt-NAMES : goal.returns-else-key-lt-NAMES
 returns-else-key-lt-NAMES c = (rw (le-ltb _ _ c.if-key-lt-NAMES.false), omega arith)
-
-pub record-spec : {M : Type 1} → statement M
-
-record-spec = close (spec returns-then-key-lt-NAMES returns-else-key-lt-NAMES)

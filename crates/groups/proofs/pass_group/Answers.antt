@@ -43,8 +43,8 @@ loop-q-preserved c =
       omega arith,
       omega arith,
       (elim c.match-pass_pair.branch
-    [ in-New w ↦ rw w.fresh-is (more-new _ c.loop-q.invariant.3 (rw w.fresh-is.given.1 at c.pass_pair.ensures))
-    | in-Still w ↦ rw w.fresh-is (more-still _ one-paired c.loop-q.invariant.3 (rw w.fresh-is.given.1 at c.pass_pair.ensures))
+    [ in-New w ↦ rw w.fresh-is (more-new _ c.loop-q.invariant.3 (rw w.in-New.is at c.pass_pair.ensures))
+    | in-Still w ↦ rw w.fresh-is (more-still _ one-paired c.loop-q.invariant.3 (rw w.in-Still.is at c.pass_pair.ensures))
     ]),
     )
 

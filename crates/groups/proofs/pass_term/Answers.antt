@@ -31,5 +31,5 @@ returns c =
     let K = c.key_at-key.ensures.0 in
     let I = c.insert-place.ensures in record {
       passing = passing-map _ (group-passed K I c.requires.sized.1 c.requires.d_len.1.closed c.requires.sized.2) c.pass_group.ensures;
-      put = record { key = _; place = _; c.before.before.before.before.before.before.before.before.before.before.before.before.before = K; put = I };
+      put = record { key = _; place = _; keyed = K; put = I };
     }

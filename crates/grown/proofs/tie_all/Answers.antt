@@ -37,15 +37,15 @@ sheet-of c = sheet_of c.args.sheet.now
 terms-of : (c : At-loop) → c.count_terms-t.result ≡ count_terms (sheet-of c)
 terms-of c = c.count_terms-t.ensures.0
 
-pair_of : (c : After-partner) → Pair (sheet-of c.before.before.before) (cell c.loop-i.d) c.partner-j.result c.loop-i.i
-pair_of c = pair (omega (arith, terms-of c.before.before.before, c.loop-i-test.true)) c.loop-i.invariant.4 c.partner-j.ensures
+pair_of : (c : After-partner) → Pair (sheet-of c.before.before) (cell c.loop-i.d) c.partner-j.result c.loop-i.i
+pair_of c = pair (omega (arith, terms-of c.before.before, c.loop-i-test.true)) c.loop-i.invariant.4 c.partner-j.ensures
 
 room_of : (c : After-partner) → c.loop-i.listed + 2 ≤ most
 room_of c = let pre = c.requires in room pre.sized.1.terms pre.froms_len.3 c.loop-i.invariant.1 (pair_of c)
 
 listing-of : (c : After-both)
     → let new = c.both.new in
-    Listing (sheet-of c.before.before.before.before.before.before.before) c.args.m c.loop-i.froms c.loop-i.tos c.loop-i.codes c.loop-i.d c.loop-i.listed
+    Listing (sheet-of c.before.before.before.before.before.before) c.args.m c.loop-i.froms c.loop-i.tos c.loop-i.codes c.loop-i.d c.loop-i.listed
     c.partner-j.result c.loop-i.i new.froms new.tos new.codes
 listing-of c =
     record {
@@ -60,9 +60,9 @@ listing-of c =
 
 rested-of : (c : After-slice_known8)
     → let new = c.both.new in
-    Rested (points (sheet-of c.before.before.before.before.before.before.before.before.before.before.before.before.before.before.before.before.before.before.before.before)) (c.loop-i.listed + 2) new.froms new.tos new.codes c.loop-i.listed c.loop-i.d
+    Rested (points (sheet-of c.before.before.before.before.before.before.before.before.before.before.before.before.before.before.before.before)) (c.loop-i.listed + 2) new.froms new.tos new.codes c.loop-i.listed c.loop-i.d
     c.put-put.new.d c.put-put.result
-rested-of c = rw (terms-of c.before.before.before.before.before.before.before.before.before.before.before.before.before.before.before.before.before.before.before.before) at c.put-put.ensures
+rested-of c = rw (terms-of c.before.before.before.before.before.before.before.before.before.before.before.before.before.before.before.before) at c.put-put.ensures
 
 pub first-i-requires : goal.first-i-requires
 first-i-requires c =
@@ -81,7 +81,7 @@ pub partner-j-requires : goal.partner-j-requires
 partner-j-requires c =
     let pre = c.requires in
     let inv = c.loop-i.invariant in record {
-      sized = (pre.sized.0, pre.sized.1, omega (arith, terms-of c.before.before.before));
+      sized = (pre.sized.0, pre.sized.1, omega (arith, terms-of c.before.before));
       d_len = (inv.0, inv.1.exact.table.closed);
     }
 
@@ -102,18 +102,18 @@ overflow_add-t c =
     omega (arith, c.count_terms-t.ensures.1)
 
 pub overflow_add-listed : goal.overflow_add-listed
-overflow_add-listed c = omega (arith, room_of c.before.before.before.before.before.before.before.before.before.before.before.before.before.before.before)
+overflow_add-listed c = omega (arith, room_of c.before.before.before.before.before.before.before.before.before.before.before.before)
 
 pub put-put-requires : goal.put-put-requires
 put-put-requires c =
-    let L = listing-of c.before.before.before.before.before.before.before.before.before.before.before in record {
-      d_len = (c.loop-i.invariant.0, omega (arith, terms-of c.before.before.before.before.before.before.before.before.before.before.before.before.before.before.before.before.before.before, c.requires.sized.1.terms), omega arith);
-      sound = rw (terms-of c.before.before.before.before.before.before.before.before.before.before.before.before.before.before.before.before.before.before) (sound L);
-      exact = rw (terms-of c.before.before.before.before.before.before.before.before.before.before.before.before.before.before.before.before.before.before) (rests L);
+    let L = listing-of c.before.before.before.before.before.before.before.before in record {
+      d_len = (c.loop-i.invariant.0, omega (arith, terms-of c.before.before.before.before.before.before.before.before.before.before.before.before.before.before, c.requires.sized.1.terms), omega arith);
+      sound = rw (terms-of c.before.before.before.before.before.before.before.before.before.before.before.before.before.before) (sound L);
+      exact = rw (terms-of c.before.before.before.before.before.before.before.before.before.before.before.before.before.before) (rests L);
     }
 
 pub overflow_add-listed-in-loop-i : goal.overflow_add-listed-in-loop-i
-overflow_add-listed-in-loop-i c = omega (arith, room_of c.before.before.before.before.before.before.before.before.before.before.before.before.before.before.before.before.before.before)
+overflow_add-listed-in-loop-i c = omega (arith, room_of c.before.before.before.before.before.before.before.before.before.before.before.before.before.before.before)
 
 pub shape_of-d-then-put-listed : goal.shape_of-d-then-put-listed
 shape_of-d-then-put-listed c =
@@ -133,7 +133,7 @@ shape_of-codes-then-put-listed c =
 
 pub returns-then-put-listed : goal.returns-then-put-listed
 returns-then-put-listed c =
-    let L = listing-of c.before.before.before.before.before.before.before.before.before.before.before.before.before.before.before in
+    let L = listing-of c.before.before.before.before.before.before.before.before.before.before.before.before in
     let R = rested-of c.before.before in
     let inv = c.loop-i.invariant in record {
       grew = shut L R c.if-put-listed.true;
@@ -145,16 +145,16 @@ pub first-i-requires-in-loop-i : goal.first-i-requires-in-loop-i
 first-i-requires-in-loop-i c =
     let pre = c.requires in record {
       sized = (pre.sized.0, pre.sized.1);
-      d_len = (c.put-put.auto.d ∙ c.loop-i.invariant.0, (rested-of c.before.before.before).exact.table.closed);
+      d_len = (c.put-put.auto.d ∙ c.loop-i.invariant.0, (rested-of c.before.before).exact.table.closed);
     }
 
 pub loop-i-smaller : goal.loop-i-smaller
-loop-i-smaller c = omega (arith, room_of c.before.before.before.before.before.before.before.before.before.before.before.before.before.before.before.before.before.before.before.before.before)
+loop-i-smaller c = omega (arith, room_of c.before.before.before.before.before.before.before.before.before.before.before.before.before.before.before.before.before)
 
 pub loop-i-preserved : goal.loop-i-preserved
 loop-i-preserved c =
-    let L = listing-of c.before.before.before.before.before.before.before.before.before.before.before.before.before.before.before.before.before in
-    let R = rested-of c.before.before.before.before in
+    let L = listing-of c.before.before.before.before.before.before.before.before.before.before.before.before.before in
+    let R = rested-of c.before.before.before in
     let inv = c.loop-i.invariant in (
       c.put-put.auto.d ∙ inv.0,
       grown L R c.if-put-listed.false,
@@ -178,7 +178,7 @@ shape_of-codes c = omega (arith, c.loop-i.invariant.1.codes-length, c.requires.f
 pub returns : goal.returns
 returns c =
     let inv = c.loop-i.invariant in record {
-      grew = ended inv.1 (inv.4.none (omega (arith, terms-of c.before.before, inv.4.at_most, c.loop-i-test.false)));
+      grew = ended inv.1 (inv.4.none (omega (arith, terms-of c.before.before, inv.4.at-most, c.loop-i-test.false)));
       front = inv.2;
       kept = inv.3;
     }

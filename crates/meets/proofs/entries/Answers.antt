@@ -36,7 +36,7 @@ loop-e-preserved c =
       entries-more c.loop-e.invariant.2
           (elim c.if-set-e.branch
     [ then-set-e+else-not-entry_true w ↦ (λ m. (entry-told (sheet_of args.sheet.now) args.d c.loop-e.e args.v.now
-          c.requires.t_value.0 w.entry_at.ensures w.entry_true.ensures).yes (not-false _ w.if-not-entry_true.false))
+          c.requires.t_value.0 w.entry_at.ensures w.entry_true.ensures).yes w.if-not-entry_true.false)
     | else-set-e w ↦ (λ m. absurd (true≢false (sym m ∙ w.if-set-e.false)))
     ]),
     )

@@ -74,20 +74,20 @@ defined-requires c =
 
 pub loop-i-preserved : goal.loop-i-preserved
 loop-i-preserved c =
-    let row = c.row-agrees.ensures.1 in
+    let row = c.row-agrees.ensures in
     let (agrees, own) = (tests c.before.before).yes c.if-agrees-defined.true in (
       omega arith,
       c.loop-i.invariant.1,
-      kept_more c.loop-i.invariant.2 (omega arith) (keys c.before.before.before.before.before.before) row.0 row.1,
-      terms-more c.loop-i.invariant.3 own (row-functional (keyed-more c.loop-i.invariant.2 (omega arith) (keys c.before.before.before.before.before.before) row.0) (keys c.before.before.before.before.before.before) agrees),
+      kept_more c.loop-i.invariant.2 (omega arith) (keys c.before.before.before.before.before.before) row.stored row.shelved,
+      terms-more c.loop-i.invariant.3 own (row-functional (keyed-more c.loop-i.invariant.2 (omega arith) (keys c.before.before.before.before.before.before) row.stored) (keys c.before.before.before.before.before.before) agrees),
     )
 
 pub returns-else-agrees-defined : goal.returns-else-agrees-defined
 returns-else-agrees-defined c =
     let pre = c.requires in
-    let row = c.row-agrees.ensures.1 in
+    let row = c.row-agrees.ensures in
     refuted (λ m. (tests c.before.before).no c.if-agrees-defined.false (
-      functional-row (keyed-more c.loop-i.invariant.2 (omega arith) (keys c.before.before.before.before.before.before) row.0) (keys c.before.before.before.before.before.before) pre.sized.1
+      functional-row (keyed-more c.loop-i.invariant.2 (omega arith) (keys c.before.before.before.before.before.before) row.stored) (keys c.before.before.before.before.before.before) pre.sized.1
           (rw pre.t_value.0 at pre.t_value.2.near) (omega (arith, pre.t_value.0)) (m.functions c.loop-i.i (omega arith)),
       m.defined c.loop-i.i (omega arith),
     ))

@@ -14,7 +14,7 @@ find-requires c =
 
 pub overflow_add-at : goal.overflow_add-at
 overflow_add-at c =
-    omega (arith, c.requires.n_le_stride, c.good)
+    omega (arith, c.requires.n_le_stride)
 
 pub find-requires-2 : goal.find-requires-2
 find-requires-2 c =

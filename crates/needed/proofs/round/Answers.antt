@@ -8,17 +8,17 @@ pub find-requires : goal.find-requires
 find-requires c =
     let S = c.requires.sound.0 in
     let last = c.args.e in
-    let pre = c.requires.1 in record {
+    let pre = c.requires in record {
       sound = (sound-fewer (omega arith) S, c.requires.sound.1);
-      n_le_stride = (pre.0.0, S.to< last (omega arith), S.from< last (omega arith), pre.0.1, omega arith, omega arith);
-      by_index = λ b b< h. pre.1 b (omega arith) h;
+      n_le_stride = (pre.n_le_stride.0, S.to< last (omega arith), S.from< last (omega arith), pre.n_le_stride.1, omega arith, omega arith);
+      by_index = λ b b< h. pre.by_index b (omega arith) h;
     }
 
 pub mark_bound-requires : goal.mark_bound-requires
 mark_bound-requires c =
     let kept = c.find.auto.need in
-    let pre = c.requires.1 in
-    (pre.0.3, λ h. omega (arith, pre.1 c.args.e (omega arith) h))
+    let pre = c.requires in
+    (pre.n_le_stride.3, λ h. omega (arith, pre.by_index c.args.e (omega arith) h))
 
 pub returns : goal.returns
 returns c =

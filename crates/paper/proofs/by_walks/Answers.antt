@@ -1,6 +1,7 @@
 -- `paper::by_walks` meets its contract: the step's head, and its walks behind it.
 -- Assumes nothing.
 use native.Mathlib.Omega.{arith}
+use Rattle.big.specs.Big.{signed_of}
 use Rattle.paper.proofs.Heads.{head-length}
 use Rattle.paper.proofs.Walks.{place-bytes}
 use Rattle.paper.proofs.Steps.{by-walks-written}
@@ -29,4 +30,7 @@ walk-requires c =
 
 pub returns : goal.returns
 returns c =
-    by-walks-written _ _ _ _ _ _ _ c.requires.1 c.requires.2 c.step-there.ensures c.walk-back.ensures c.walk.ensures
+    let args = c.args in
+    let both = by-walks-written args.a args.b (signed_of 8 args.c) args.ranks.now args.names.now args.walks.now args.at c.requires.1 c.requires.2 c.step-there.ensures
+        c.walk-back.ensures c.walk.ensures in
+    record { step = both.0; short = both.1 }

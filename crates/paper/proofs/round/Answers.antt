@@ -1,7 +1,9 @@
 -- `paper::round` meets its contract: the step's head, the bound, and the walk of the ending.
 -- Assumes nothing.
+use lib.ListN.{get_or}
 use native.Mathlib.Omega.{arith}
-use Rattle.sketch.specs.Sketch.{ending}
+use Rattle.sketch.specs.Sketch.{ending, bound_named}
+use Rattle.paper.specs.Written.{ranked_bound}
 use Rattle.paper.proofs.Heads.{head-length}
 use Rattle.paper.proofs.Walks.{bound-length}
 use Rattle.paper.proofs.Steps.{round-written}
@@ -28,4 +30,6 @@ walk-requires c =
 
 pub returns : goal.returns
 returns c =
-    round-written _ _ _ _ _ ending c.requires.step_length_in_bounds.1 c.step-at.ensures c.bound-then.ensures c.walk.ensures
+    let both = round-written c.args.a (ranked_bound c.args.ranks.now (bound_named (get_or c.args.names.now c.args.e 0))) c.args.ranks.now c.args.names.now c.args.walks.now ending
+        c.requires.step_length_in_bounds.1 c.step-at.ensures c.bound-then.ensures c.walk.ensures in
+    record { step = both.0; short = both.1 }

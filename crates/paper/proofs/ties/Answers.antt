@@ -31,10 +31,10 @@ loop-t-preserved c =
     elim c.if-need-t.branch
     [ then-need-t w ↦ rw (w.room-is, w.at-is) (
       omega arith,
-      omega (arith, w.at-is.ensures.1, rank-more keep loop.t {k = rank keep loop.t} w.if-need-t.true refl),
+      omega (arith, w.tie-at.ensures.short, rank-more keep loop.t {k = rank keep loop.t} w.if-need-t.true refl),
       tie-kept keep _ loop.t w.if-need-t.true loop.invariant.2
           (tie-renamed keep _ _ c.args.ties.now _ loop.t c.args.count c.loop-t-test.true c.requires.ranked
-          (c.requires.by_index loop.t c.loop-t-test.true w.if-need-t.true) w.at-is.ensures.0),
+          (c.requires.by_index loop.t c.loop-t-test.true w.if-need-t.true) w.tie-at.ensures.step),
     )
     | else-need-t w ↦ rw (w.room-is, w.at-is) (
       omega arith,

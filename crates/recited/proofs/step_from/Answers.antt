@@ -13,7 +13,7 @@ is_whole : (c : Then1) → Whole c.args.bytes.now c.args.at
 is_whole c = c.whole.ensures.yes c.if-whole.true
 
 pub returns-then-whole : goal.returns-then-whole
-returns-then-whole c = record { whole = λ W. c.IsWhole-from.ensures; cut = λ w. absurd (w (is_whole c.before.before)) }
+returns-then-whole c = record { whole = λ W. c.whole_from.ensures; cut = λ w. absurd (w (is_whole c.before.before)) }
 
 pub returns-else-whole : goal.returns-else-whole
 returns-else-whole c =

@@ -11,7 +11,7 @@ pub upwards-y-requires : goal.upwards-y-requires
 upwards-y-requires c = c.requires
 
 pub returns : goal.returns
-returns c =
+returns c = λ u.
     let args = c.args in
     subst (FromBoth args.links.now args.paths.now u args.i args.j) (sym (c.difference.ensures u))
     (both (c.upwards-x.ensures u) (c.upwards-y.ensures u))

@@ -61,13 +61,13 @@ pub step_at-s-requires : goal.step_at-s-requires
 step_at-s-requires c = omega (arith, c.count-count.ensures)
 
 pub ruling_on-requires : goal.ruling_on-requires
-ruling_on-requires c = (asked c.before.before.before.before.before, c.requires.size)
+ruling_on-requires c = (asked c.before.before.before.before, c.requires.size)
 
 pub overflow_cast-result : goal.overflow_cast-result
 overflow_cast-result c = omega (arith, few c.loop-n.invariant.4.known)
 
 pub shape_of-legs-in-Wrong : goal.shape_of-legs-in-Wrong
-shape_of-legs-in-Wrong c = same_size c.before.before.before.before.before.before.before.before
+shape_of-legs-in-Wrong c = same_size c.before.before.before.before.before.before.before
 
 pub returns-in-Wrong : goal.returns-in-Wrong
 returns-in-Wrong c =
@@ -79,14 +79,14 @@ pub close-requires : goal.close-requires
 close-requires c =
     let P = c.loop-n.invariant.4 in
     record {
-      lent = lent c.before.before.before.before.before.before.before.before.before.before;
+      lent = lent c.before.before.before.before.before.before.before.before.before;
       size = c.requires.size;
       legs = _;
       upright = ruled-closes P (there c.before.before.before.before.before) _ c.step_at-s.ensures _ (c.ruling_on.ensures _ _ P.known) c.in-Closes.is;
     }
 
 pub shape_of-legs-in-Closes : goal.shape_of-legs-in-Closes
-shape_of-legs-in-Closes c = same_size c.before.before.before.before.before.before.before.before.before.before.before
+shape_of-legs-in-Closes c = same_size c.before.before.before.before.before.before.before.before.before.before
 
 pub returns-in-Closes : goal.returns-in-Closes
 returns-in-Closes c = (c.close.ensures, c.loop-n.invariant.5)

@@ -11,28 +11,19 @@ use Rattle.grounds.proofs.Replies.{fine-sheet}
 use Rattle.refusal.specs.Says.{check_says}
 use Rattle.surveyor.specs.Inside.{ReadySays}
 use Rattle.surveyor.proofs.Join.{list-none, list-some, all-fine}
-use Rattle.surveyor.proofs.prepare.Lts as lts
-use Rattle.surveyor.proofs.prepare.Reads as reads
-use Rattle.surveyor.proofs.prepare.Tie as tie
 use Rattle.surveyor.proofs.prepare.Goals as goal
 
-abbrev After-enum_told : Type 0
-After-enum_told = lts.After-enum_told tie.the-claims reads.Pre reads.Post
-
-accepted : (c : After-enum_told) → refusal c.args.sheet.now room_needed ≡ fine
-accepted c = sym c.check.ensures ∙ ap check_says c.in-Fine.is
-
 pub bounds-sheet-4 : goal.bounds-sheet-4
-bounds-sheet-4 c = omega (arith, (fine-formed _ (fine-sheet _ _ (accepted c.before.before)).0).0.whole)
+bounds-sheet-4 c = omega (arith, (fine-formed _ (fine-sheet _ _ (sym c.check.ensures ∙ ap check_says c.in-Fine.is)).0).0.whole)
 
 pub returns-then-not-rises : goal.returns-then-not-rises
 unfolding ReadySays
 returns-then-not-rises c =
-    (accepted c.before.before.before.before.before.before.before, list-none _ _ _ _ c.rises.ensures c.if-not-rises.true-raw)
+    (sym c.check.ensures ∙ ap check_says c.in-Fine.is, list-none _ _ _ _ c.rises.ensures c.if-not-rises.true-raw)
 
 pub lay-requires : goal.lay-requires
 lay-requires c =
-    let (sized, formed) = fine-formed _ (fine-sheet _ _ (accepted c.before.before.before.before.before.before.before.before.before)).0 in (
+    let (sized, formed) = fine-formed _ (fine-sheet _ _ (sym c.check.ensures ∙ ap check_says c.in-Fine.is)).0 in (
       sized,
       formed,
       (list-some c.args.sheet.now c.args.list.now _ c.rises.result c.rises.ensures c.if-not-rises.false-raw).size,
@@ -46,5 +37,5 @@ returns-in-Refused c = sym c.check.ensures ∙ ap check_says c.in-Refused.is
 pub returns-else-not-rises : goal.returns-else-not-rises
 unfolding ReadySays
 returns-else-not-rises c =
-    all-fine c.requires.1 (accepted c.before.before.before.before.before.before.before.before.before.before.before.before)
+    all-fine c.requires.1 (sym c.check.ensures ∙ ap check_says c.in-Fine.is)
     (list-some _ _ _ _ c.rises.ensures c.if-not-rises.false-raw) c.lay.ensures

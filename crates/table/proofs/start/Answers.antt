@@ -11,6 +11,7 @@ use Rattle.closure.proofs.Table.{fresh}
 use Rattle.kind.specs.Code.{base, none}
 use Rattle.cells.specs.Cells.{stride, cell, RowStarted}
 use Rattle.table.specs.Inserted.{Started}
+use Rattle.table.proofs.start.Invariants.{Rows}
 use Rattle.table.proofs.start.Lts as lts
 use Rattle.table.proofs.start.Reads as reads
 use Rattle.table.proofs.start.Tie as tie
@@ -18,13 +19,6 @@ use Rattle.table.proofs.start.Goals as goal
 
 abbrev After-loop : Type 0
 After-loop = lts.After-loop tie.the-claims reads.Pre reads.Post goal.the-invariant-loop-i goal.the-decreases-loop-i
-
--- the rows below m are started
-record Rows (old d : List ℕ) (n m : ℕ) : Type 0 where
-  same : (i : ℕ) → i < m → cell d i i ≡ base
-  apart : (i : ℕ) → i < m → (j : ℕ) → j < n → (i ≡ j → ⊥) → cell d i j ≡ none
-  right : (i j : ℕ) → n ≤ j → j < stride → cell d i j ≡ cell old i j
-  below : (k : ℕ) → m * stride ≤ k → get_or d k 0 ≡ get_or old k 0
 
 more : (old d new : List ℕ) (n i : ℕ) → i < n → n ≤ stride → Rows old d n i → RowStarted d new i n → Rows old new n (i + 1)
 more old d new n i h n≤ R S =

@@ -30,4 +30,4 @@ returns-else-sign-eq45 c =
 
 pub returns-in-Refused : goal.returns-in-Refused
 returns-in-Refused c =
-    answers-as (shift-refused _ _ (ap read_says c.in-Refused.is)) (refused-answers _ c.requires)
+    answers-as (shift-refused c.args.s.now c.args.m.now (ap read_says c.in-Refused.is)) (refused-answers _ c.requires)

@@ -38,7 +38,7 @@ pub bounds-sheet-3 : goal.bounds-sheet-3
 bounds-sheet-3 c = omega (arith, c.requires.0.sized.whole)
 
 pub returns-then-s-zero : goal.returns-then-s-zero
-returns-then-s-zero c = round-off c.requires.0 c.args.s c.requires.1 listed ((spares c.before.before).caught c.if-s-zero.true)
+returns-then-s-zero c = λ listed. round-off c.requires.0 c.args.s c.requires.1 listed ((spares c.before.before).caught c.if-s-zero.true)
 
 pub overflow_cast-zero : goal.overflow_cast-zero
 overflow_cast-zero c = let l = few-terms c.requires.0 in omega arith
@@ -47,7 +47,7 @@ pub overflow_add-zero : goal.overflow_add-zero
 overflow_add-zero c = let l = few-terms c.requires.0 in omega arith
 
 pub returns-then-zero-s : goal.returns-then-zero-s
-returns-then-zero-s c =
+returns-then-zero-s c = λ listed.
     round-nowhere c.requires.0 c.args.s c.requires.1 listed (bytes c.before.before.before.before) (omega (arith, there-long c.before.before.before.before.before.before.before.before.before.before.before.before))
     (λ F. let l = F.few in let m = c.if-zero-s.true in omega arith)
 
@@ -60,19 +60,19 @@ walk-requires c =
     (c.requires.0.legs-size, omega (arith, there-long c.before.before.before.before.before.before.before.before.before.before.before.before.before.before, few-terms c.requires.0))
 
 pub returns-in-Nowhere : goal.returns-in-Nowhere
-returns-in-Nowhere c =
+returns-in-Nowhere c = λ listed.
     let says = rw c.in-Nowhere.is at c.walk.ensures in
     round-nowhere c.requires.0 c.args.s c.requires.1 listed (bytes c.before.before.before.before.before.before.before.before.before) (omega (arith, there-long c.before.before.before.before.before.before.before.before.before.before.before.before.before.before.before.before.before)) (λ F. says _ F.goes)
 
 pub returns-then-end-s : goal.returns-then-end-s
-returns-then-end-s c =
+returns-then-end-s c = λ listed.
     let l = c.if-zero-s.false in
     round-told c.requires.0 c.args.s c.requires.1 listed (bytes c.before.before.before.before.before.before.before.before.before.before.before.before.before.before) (omega (arith, there-long c.before.before.before.before.before.before.before.before.before.before.before.before.before.before.before.before.before.before.before.before.before.before))
     ((spares c.before.before.before.before.before.before.before.before.before.before.before.before.before.before).passed c.if-s-zero.false)
     (falls-here (rw c.in-To.is at c.walk.ensures) l c.if-end-s.true c.under.ensures)
 
 pub returns-else-end-s : goal.returns-else-end-s
-returns-else-end-s c =
+returns-else-end-s c = λ listed.
     subst (TellsClosing _ _ _ _ _) (sym (ne_eqb _ _ c.if-end-s.false))
     (round-nowhere c.requires.0 c.args.s c.requires.1 listed (bytes c.before.before.before.before.before.before.before.before.before.before.before.before.before) (omega (arith, there-long c.before.before.before.before.before.before.before.before.before.before.before.before.before.before.before.before.before.before.before.before.before))
     (falls-there (rw c.in-To.is at c.walk.ensures) c.if-end-s.false))
