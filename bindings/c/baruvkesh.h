@@ -1,4 +1,4 @@
-/* The panel's calls for C and C++. The code behind them is proved, for x86-64 Linux: `rt staticlib baruvkesh` writes it to
+/* The panel's calls for C and C++. The code behind them is proved, for x86-64 Linux: `tools/archive` has it built as
  * target/staticlib/libbaruvkesh.a, and a program links that archive and the C library. */
 #ifndef BARUVKESH_H
 #define BARUVKESH_H

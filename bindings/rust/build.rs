@@ -1,4 +1,4 @@
-//! Finds the archive: in BARUVKESH_LIB_DIR, or where `rt staticlib baruvkesh` writes it.
+//! Finds the archive: in BARUVKESH_LIB_DIR, or where `tools/archive` puts it.
 use std::env;
 use std::path::PathBuf;
 
@@ -12,7 +12,7 @@ fn main() {
     let archive = dir.join("libbaruvkesh.a");
     assert!(
         archive.is_file(),
-        "there is no {}: run `rt staticlib baruvkesh`, or set BARUVKESH_LIB_DIR to the archive's folder",
+        "there is no {}: run `tools/archive`, or set BARUVKESH_LIB_DIR to the archive's folder",
         archive.display()
     );
     println!("cargo:rustc-link-search=native={}", dir.display());
