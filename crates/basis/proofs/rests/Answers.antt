@@ -16,9 +16,6 @@ use Rattle.basis.proofs.rests.Goals as goal
 abbrev Start : Type 0
 Start = lts.Start tie.the-claims reads.Pre reads.Post
 
-abbrev At-match-rest : Type 0
-At-match-rest = lts.At-match-rest tie.the-claims reads.Pre reads.Post
-
 there-long : (c : Start) → length c.args.s.there ≡ 129
 there-long c = search rules
 
@@ -36,23 +33,15 @@ between_terms-requires c =
     let pre = c.requires in
     (pre.0, entry-within pre.0.well-formed pre.1.stands c.in-3.is)
 
-module _ (c : At-match-rest) where
-  not-functions : c.args.s.kind ≢ 1
-  not-functions = c.in_default.in_default-own.rest.0.1
-
-  not_entry : c.args.s.kind ≢ 3
-  not_entry = c.in_default.in_default-own.rest.1
-
-  few : (c.args.s.first ≤ 129) × (c.args.s.second ≤ 129)
-  few = walks-few c.requires.0.well-formed c.requires.1.stands not-functions not_entry
-
 pub of_walk-first-requires : goal.of_walk-first-requires
 of_walk-first-requires c =
-    (omega (arith, few c.before.before.before.before, there-long c.before.before.before.before.before.before.before.before), λ t A. named-few c.requires.0.well-formed c.requires.1.stands (inl A))
+    let few = walks-few c.requires.0.well-formed c.requires.1.stands c.in_default.in_default-own.rest.0.1 c.in_default.in_default-own.rest.1 in
+    (omega (arith, few, there-long c.before.before.before.before.before.before.before.before), λ t A. named-few c.requires.0.well-formed c.requires.1.stands (inl A))
 
 pub of_walk-second-requires : goal.of_walk-second-requires
 of_walk-second-requires c =
-    (omega (arith, few c.before.before.before.before.before.before, back_long c.before.before.before.before.before.before.before.before.before.before), λ t A. named-few c.requires.0.well-formed c.requires.1.stands (inr A))
+    let few = walks-few c.requires.0.well-formed c.requires.1.stands c.in_default.in_default-own.rest.0.1 c.in_default.in_default-own.rest.1 in
+    (omega (arith, few, back_long c.before.before.before.before.before.before.before.before.before.before), λ t A. named-few c.requires.0.well-formed c.requires.1.stands (inr A))
 
 pub returns-in-1 : goal.returns-in-1
 returns-in-1 c =
@@ -67,5 +56,5 @@ returns-in-3 c =
 pub returns-in_default : goal.returns-in_default
 returns-in_default c =
     λ listed steps m legs n S.
-    walks-rest c.requires.0.well-formed S (not-functions c.before.before.before.before.before.before.before.before) (not_entry c.before.before.before.before.before.before.before.before) c.of_walk-first.ensures
+    walks-rest c.requires.0.well-formed S c.in_default.in_default-own.rest.0.1 c.in_default.in_default-own.rest.1 c.of_walk-first.ensures
     c.of_walk-second.ensures c.either.ensures

@@ -38,13 +38,13 @@ module _ (m : List ℕ) (x y sum due : ℕ) where
 pub returns-then-y-x : goal.returns-then-y-x
 returns-then-y-x c =
     let loop = c.loop-left in
-    sym (here _ _ loop.y loop.sum loop.due loop.left (omega arith) c.if-y-x.true) ∙ loop.invariant.1
+    sym (here c.args.m.now c.args.x loop.y loop.sum loop.due loop.left (omega arith) c.if-y-x.true) ∙ loop.invariant.1
 
 pub loop-left-preserved : goal.loop-left-preserved
 loop-left-preserved c =
     let loop = c.loop-left in (
       omega arith,
-      sym (further _ _ loop.y loop.sum loop.due loop.left (omega arith) c.if-y-x.false) ∙ loop.invariant.1,
+      sym (further c.args.m.now c.args.x loop.y loop.sum loop.due loop.left (omega arith) c.if-y-x.false) ∙ loop.invariant.1,
       omega arith,
       omega arith,
       omega arith,
@@ -53,4 +53,4 @@ loop-left-preserved c =
 pub returns : goal.returns
 returns c =
     let loop = c.loop-left in
-    over _ _ loop.y loop.sum loop.due loop.left (omega arith) ∙ loop.invariant.1
+    over c.args.m.now c.args.x loop.y loop.sum loop.due loop.left (omega arith) ∙ loop.invariant.1

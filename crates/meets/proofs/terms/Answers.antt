@@ -62,6 +62,9 @@ loop-i-init c =
     let pre = c.requires in
     (omega arith, omega (arith, pre.t_value.0, pre.sized.1.terms), kept-none refl refl, terms-none)
 
+pub input_of-input-requires : goal.input_of-input-requires
+input_of-input-requires c = asked c.before.before
+
 pub row-agrees-requires : goal.row-agrees-requires
 row-agrees-requires c =
     let kept = c.loop-i.invariant.2 in

@@ -1,7 +1,11 @@
 -- `paper::tie` meets its contract: by functions, or by the walks at twice its number.
 -- Assumes nothing.
+use Prim.Native.Nat.{◌+◌, ◌*◌}
+use mathlib.Core.Path.{◌≡◌}
 use native.Mathlib.Omega.{arith}
 use borrow.Author.Rules.{rules}
+use Rattle.sketch.specs.Sketch.{how_of, walk_at}
+use Rattle.paper.specs.Written.{ranked_walk}
 use Rattle.paper.proofs.Walks.{more-ties}
 use Rattle.paper.proofs.Steps.{by-functions, by-walks}
 use Rattle.paper.proofs.tie.Goals as goal
