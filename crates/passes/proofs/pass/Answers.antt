@@ -2,7 +2,6 @@
 -- Assumes nothing.
 use Prim.Native.Nat.{◌-◌}
 use mathlib.Core.Path.{◌≡◌, refl}
-use mathlib.Core.Logic.{⊎_elim}
 use native.Mathlib.Omega.{arith}
 use Rattle.sheet.specs.Decode.{sheet_of}
 use Rattle.sheet.specs.Sheet.{count_terms}
@@ -10,6 +9,7 @@ use Rattle.sorted.proofs.Inserted.{ascending-none, ascending-more}
 use Rattle.pairs.proofs.Passes.{same, sofar-table, more-new, more-still, ended, clash-after}
 use Rattle.groups.proofs.Groups.{no-terms, one-term}
 use Rattle.passes.proofs.pass.Goals as goal
+use Rattle.passes.proofs.pass.Goals.{in-New, in-Still}
 
 pub loop-i-init : goal.loop-i-init
 loop-i-init c =
@@ -34,9 +34,10 @@ loop-i-preserved c =
       omega arith,
       omega arith,
       ascending-more K.put c.loop-i.invariant.4,
-      ⊎_elim (λ w. rw w.2 (more-new _ c.loop-i.invariant.5 (rw w.1.given.1 at c.pass_term.ensures.passing)))
-          (λ w. rw w.2 (more-still _ (one-term K) c.loop-i.invariant.5 (rw w.1.given.1 at c.pass_term.ensures.passing)))
-          c.match-pass_term.branch,
+      (elim c.match-pass_term.branch
+      [ in-New w ↦ rw w.fresh-is (more-new _ c.loop-i.invariant.5 (rw w.in-New.is at c.pass_term.ensures.passing))
+      | in-Still w ↦ rw w.fresh-is (more-still _ (one-term K) c.loop-i.invariant.5 (rw w.in-Still.is at c.pass_term.ensures.passing))
+      ]),
     )
 
 pub returns : goal.returns

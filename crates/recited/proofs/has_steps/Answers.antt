@@ -1,7 +1,6 @@
 -- `recited::has_steps` meets its contract: step by step (proofs/Counting.antt). The measure is the number of steps that are left.
 -- Assumes nothing.
 use mathlib.Core.Path.{sym}
-use mathlib.Core.Logic.{⊎_elim}
 use native.Mathlib.Omega.{arith}
 use borrow.Author.Tests.{eqb-true, eqb-false, not-true, not-false}
 use Rattle.recited.specs.Recited.{Whole}
@@ -11,6 +10,7 @@ use Rattle.recited.proofs.has_steps.Lts as lts
 use Rattle.recited.proofs.has_steps.Reads as reads
 use Rattle.recited.proofs.has_steps.Tie as tie
 use Rattle.recited.proofs.has_steps.Goals as goal
+use Rattle.recited.proofs.has_steps.Goals.{then-record-at-lt2, else-record-at-lt2}
 
 abbrev Else1 : Type 0
 Else1 = lts.Else1 tie.the-claims reads.Pre reads.Post goal.the-invariant-loop-left goal.the-decreases-loop-left
@@ -38,8 +38,8 @@ adds : (c : Joined2) →
     Adds c.args.«record».now c.loop-left.at c.loop-left.found c.if-record-at-lt2.found
 adds c =
     record {
-      tie = λ b. ⊎_elim (λ w. omega arith) (λ w. omega arith) c.if-record-at-lt2.branch;
-      other = λ b. ⊎_elim (λ w. omega arith) (λ w. omega arith) c.if-record-at-lt2.branch;
+      tie = λ b. (elim c.if-record-at-lt2.branch [ then-record-at-lt2 w ↦ omega arith | else-record-at-lt2 w ↦ omega arith ]);
+      other = λ b. (elim c.if-record-at-lt2.branch [ then-record-at-lt2 w ↦ omega arith | else-record-at-lt2 w ↦ omega arith ]);
     }
 
 pub loop-left-preserved : goal.loop-left-preserved
