@@ -27,7 +27,7 @@ ties-at-requires c = record {
 pub round-end-requires : goal.round-end-requires
 round-end-requires c =
     let (walk, few, e<, name) = c.requires.readable in
-    let far : c.args.count ≤ length c.rank-kept.last.1.1.0 = omega (arith, c.requires.writable.0, c.rank-kept.auto.ranks) in record {
+    let far : c.args.count ≤ length c.rank-kept.new.ranks = omega (arith, c.requires.writable.0, c.rank-kept.auto.ranks) in record {
       step_length_in_bounds = (
         omega (arith, c.requires.writable.0, c.ties-at.ensures.short, c.ties-at.auto.room, few-kept c.before.before.before.before.before.before.before.before.before),
         more-ties far walk,

@@ -28,7 +28,7 @@ ties-at-requires c = record {
 pub by_walks-tied-requires : goal.by_walks-tied-requires
 by_walks-tied-requires c =
     let (there, back) = c.requires.readable in
-    let far : c.args.count ≤ length c.rank-kept.last.1.1.0 = omega (arith, c.requires.writable.0, c.rank-kept.auto.ranks) in (
+    let far : c.args.count ≤ length c.rank-kept.new.ranks = omega (arith, c.requires.writable.0, c.rank-kept.auto.ranks) in (
       omega (arith, c.requires.writable.0, c.ties-at.ensures.short, c.ties-at.auto.room, few-kept c.before.before.before.before.before.before.before.before.before),
       more-ties far there,
       more-ties far back,

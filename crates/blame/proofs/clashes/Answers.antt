@@ -15,14 +15,14 @@ returns-then-values c =
 
 pub returns-in-Holds : goal.returns-in-Holds
 returns-in-Holds c =
-    let (judged, kept) = c.on.ensures in record {
-      decides = refuted (λ clash. clash (judged.holds (ap number_of c.in-Holds.is)));
-      kept = kept;
+    let on = c.on.ensures in record {
+      decides = refuted (λ clash. clash (on.judged.holds (ap number_of c.in-Holds.is)));
+      kept = on.kept;
     }
 
 pub returns-in-Clashes : goal.returns-in-Clashes
 returns-in-Clashes c =
-    let (judged, kept) = c.on.ensures in record {
-      decides = record { yes = λ e. judged.clashes (ap number_of c.in-Clashes.is); no = λ e. absurd (true≢false e) };
-      kept = kept;
+    let on = c.on.ensures in record {
+      decides = record { yes = λ e. on.judged.clashes (ap number_of c.in-Clashes.is); no = λ e. absurd (true≢false e) };
+      kept = on.kept;
     }

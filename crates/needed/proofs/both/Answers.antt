@@ -19,7 +19,7 @@ overflow_add-at c =
 pub find-requires-2 : goal.find-requires-2
 find-requires-2 c =
     let pre = c.requires in
-    let kept = c.find.auto.1.1.1.1.1.1.1.1 in record {
+    let kept = c.find.auto in record {
       sound = (pre.sound.0, pre.sound.2);
       n_le_stride = (pre.n_le_stride.0, pre.n_le_stride.2, pre.n_le_stride.1, omega arith, omega arith, pre.n_le_stride.5);
       by_index = λ e e< h. omega (arith, pre.by_index e e< h);

@@ -34,13 +34,13 @@ loop-t-preserved-then-need-t c =
     let inv = c.loop-t.invariant in
     let room = pre.ties_len in
     let all-points : c.count_terms-n.result + 1 ≡ points (sheet_of c.args.sheet.now) = omega (arith, c.count_terms-n.ensures.0) in
-    let kept = c.support.auto.1.1.1.1.1.1.1.1.1.1 in
+    let kept = c.support.auto in
     let up : c.loop-t.t ≡ c.loop-t.t - 1 + 1 = omega arith in (
       omega (arith, inv.0),
-      kept.0 ∙ inv.1,
-      kept.1.0 ∙ inv.2,
-      kept.1.1.0 ∙ inv.3,
-      one_more (rw up at inv.4) (omega (arith, pre.sized.1.terms)) (omega (arith, inv.3, room, pre.sized.1.terms)) kept.1.1.0
+      kept.best ∙ inv.1,
+      kept.need ∙ inv.2,
+      kept.walks ∙ inv.3,
+      one_more (rw up at inv.4) (omega (arith, pre.sized.1.terms)) (omega (arith, inv.3, room, pre.sized.1.terms)) kept.walks
           (omega (arith, inv.0)) c.if-need-t.true c.support.ensures.supported,
       kept_on inv.5 (rw all-points at c.support.ensures.kept),
     )

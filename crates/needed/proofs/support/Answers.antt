@@ -65,7 +65,7 @@ both-requires c =
           omega (arith, left_is c.before.before.before.before.before, G.left<, pre.sized.2),
           omega (arith, right_is c.before.before.before.before.before, G.right<, pre.sized.2),
           pre.best_len.0,
-          omega (arith, pre.sized.1.terms, pre.1),
+          omega (arith, pre.sized.1.terms, pre.ties_len),
           W.all-names,
         );
       by_index = λ e e< t. omega (arith, W.earlier e e< t, pre.ties_len.3);
@@ -75,6 +75,6 @@ pub returns : goal.returns
 returns c =
     let pre = c.requires in record {
       supported = supported-both (left_is c.before.before.before.before.before.before.before.before.before.before.before.before) (right_is c.before.before.before.before.before.before.before.before.before.before.before.before) pre.sized.2 pre.grounds (how-next c.before.before.before.before.before.before.before.before.before.before.before.before c.if-how-eq0.false) (small c.before.before.before.before.before.before.before.before.before.before.before.before)
-          (omega (arith, pre.sized.1.terms, pre.1)) c.both.ensures.found;
+          (omega (arith, pre.sized.1.terms, pre.ties_len)) c.both.ensures.found;
       kept = c.both.ensures.kept;
     }

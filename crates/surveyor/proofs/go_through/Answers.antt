@@ -1,4 +1,4 @@
--- `surveyor::go_through` meets its contract, over the derivation that is carried over from a sister by tools/sister.py. The loop's invariant:
+-- `surveyor::go_through` meets its contract. The loop's invariant:
 -- the first n steps have passed.
 -- Assumes nothing.
 use Prim.Native.Nat.{◌-◌, ◌<◌}
@@ -8,7 +8,7 @@ use lib.ListN.{length}
 use Rattle.order.specs.First.{marked}
 use Rattle.sheet.specs.Decode.{sheet_of}
 use Rattle.stated.specs.Said.{steps_of}
-use Rattle.upheld.specs.Ruled.{Asked, RightTie}
+use Rattle.upheld.specs.Ruled.{Asked}
 use Rattle.basis.specs.Basis.{Lent}
 use Rattle.surveyor.proofs.Noting.{laid-size, none-laid, one-laid, none_passed, tie-fits, passed-more}
 use Rattle.surveyor.proofs.Answering.{few, ruled-wrong, ruled-ties, ruled-closes, no-closing-step}
@@ -17,17 +17,8 @@ use Rattle.surveyor.proofs.go_through.Reads as reads
 use Rattle.surveyor.proofs.go_through.Tie as tie
 use Rattle.surveyor.proofs.go_through.Goals as goal
 
-abbrev After-ruling_on : Type 0
-After-ruling_on = lts.After-ruling_on tie.the-claims reads.Pre reads.Post goal.the-invariant-loop-n goal.the-decreases-loop-n tie.handed_clauses
-
 abbrev At-loop : Type 0
 At-loop = lts.At-loop tie.the-claims reads.Pre reads.Post goal.the-invariant-loop-n goal.the-decreases-loop-n tie.handed_clauses
-
-abbrev After-enum_told3 : Type 0
-After-enum_told3 = lts.After-enum_told3 tie.the-claims reads.Pre reads.Post goal.the-invariant-loop-n goal.the-decreases-loop-n tie.handed_clauses
-
-there : (c : After-ruling_on) → c.loop-n.n < length c.args.steps.now
-there c = omega (arith, c.loop-n-test.true, c.count-count.ensures)
 
 same_size : (c : At-loop) → length c.loop-n.legs ≡ length c.args.legs.now
 same_size c = c.loop-n.invariant.1 ∙ sym (laid-size c.requires)
@@ -67,57 +58,55 @@ pub overflow_cast-result : goal.overflow_cast-result
 overflow_cast-result c = omega (arith, few c.loop-n.invariant.4.known)
 
 pub shape_of-legs-in-Wrong : goal.shape_of-legs-in-Wrong
-shape_of-legs-in-Wrong c = same_size c.before.before.before.before.before.before.before
+shape_of-legs-in-Wrong c = same_size c.before.before.before.before.before.before
 
 pub returns-in-Wrong : goal.returns-in-Wrong
 returns-in-Wrong c =
     let P = c.loop-n.invariant.4 in
-    let wrong = ruled-wrong P (there c.before.before.before) _ c.step_at-s.ensures _ (c.ruling_on.ensures _ _ P.known) c.in-Wrong.is in
+    let there : c.loop-n.n < length c.args.steps.now = omega (arith, c.loop-n-test.true, c.count-count.ensures) in
+    let wrong = ruled-wrong P there _ c.step_at-s.ensures _ (c.ruling_on.ensures _ _ P.known) c.in-Wrong.is in
     (wrong, c.loop-n.invariant.5)
 
 pub close-requires : goal.close-requires
 close-requires c =
     let P = c.loop-n.invariant.4 in
+    let there : c.loop-n.n < length c.args.steps.now = omega (arith, c.loop-n-test.true, c.count-count.ensures) in
     record {
-      lent = lent c.before.before.before.before.before.before.before.before.before;
+      lent = lent c.before.before.before.before.before.before.before.before;
       size = c.requires.size;
       legs = _;
-      upright = ruled-closes P (there c.before.before.before.before.before) _ c.step_at-s.ensures _ (c.ruling_on.ensures _ _ P.known) c.in-Closes.is;
+      upright = ruled-closes P there _ c.step_at-s.ensures _ (c.ruling_on.ensures _ _ P.known) c.in-Closes.is;
     }
 
 pub shape_of-legs-in-Closes : goal.shape_of-legs-in-Closes
-shape_of-legs-in-Closes c = same_size c.before.before.before.before.before.before.before.before.before.before
+shape_of-legs-in-Closes c = same_size c.before.before.before.before.before.before.before.before.before
 
 pub returns-in-Closes : goal.returns-in-Closes
 returns-in-Closes c = (c.close.ensures, c.loop-n.invariant.5)
-
--- where the step ties
-right : (c : After-enum_told3) → let start = c.args in
-    RightTie (sheet_of start.sheet.now) (marked start.listed.now) (steps_of start.steps.now) c.loop-n.n
-    c.step_at-s.result
-right told =
-    let P = told.loop-n.invariant.4 in
-    ruled-ties P (there told.before.before) _ told.step_at-s.ensures _ (told.ruling_on.ensures _ _ P.known) told.in-Ties.is
 
 pub overflow_cast-n : goal.overflow_cast-n
 overflow_cast-n c = omega (arith, few c.loop-n.invariant.4.known)
 
 pub note-requires : goal.note-requires
 note-requires c =
-    let P = c.loop-n.invariant.4 in (
+    let P = c.loop-n.invariant.4 in
+    let there : c.loop-n.n < length c.args.steps.now = omega (arith, c.loop-n-test.true, c.count-count.ensures) in
+    let right = ruled-ties P there _ c.step_at-s.ensures _ (c.ruling_on.ensures _ _ P.known) c.in-Ties.is in (
       c.loop-n.invariant.1,
       c.loop-n.invariant.2,
       P.known.links-are.rising,
       c.loop-n.invariant.3,
-      tie-fits c.requires.well-formed (there c.before.before.before.before.before.before) c.step_at-s.ensures P (right c.before.before.before.before),
+      tie-fits c.requires.well-formed there c.step_at-s.ensures P right,
     )
 
 pub loop-n-preserved : goal.loop-n-preserved
 loop-n-preserved c =
     let P = c.loop-n.invariant.4 in
-    let (leg, (path, groups)) = c.note.ensures in
-    let Q = passed-more c.requires.well-formed (there c.before.before.before.before.before.before.before.before.before.before.before) c.step_at-s.ensures P (right c.before.before.before.before.before.before.before.before.before) leg path groups in
-    (omega arith, Q.known.legs-are.size, Q.known.links-are.size, Q.traced.size, Q, one-laid _ _ leg c.loop-n.invariant.5)
+    let there : c.loop-n.n < length c.args.steps.now = omega (arith, c.loop-n-test.true, c.count-count.ensures) in
+    let right = ruled-ties P there _ c.step_at-s.ensures _ (c.ruling_on.ensures _ _ P.known) c.in-Ties.is in
+    let noted = c.note.ensures in
+    let Q = passed-more c.requires.well-formed there c.step_at-s.ensures P right noted.leg noted.path noted.groups in
+    (omega arith, Q.known.legs-are.size, Q.known.links-are.size, Q.traced.size, Q, one-laid _ _ noted.leg c.loop-n.invariant.5)
 
 pub overflow_cast-result-2 : goal.overflow_cast-result-2
 overflow_cast-result-2 c = omega (arith, few c.loop-n.invariant.4.known)

@@ -65,7 +65,7 @@ tied_at-requires c =
 pub returns-in-Unequal : goal.returns-in-Unequal
 returns-in-Unequal c =
     entry-told c.requires.0 c.args.s c.requires.2 (marked c.args.listed.now) (entry_says c.entry_at-entry.result) (bytes c.before.before.before.before.before.before.before.before.before.before)
-    ((spares c.before.before.before.before.before.before.before.before.before.before.before).passed c.if-s-sheet.false) (not-false _ c.if-not-listed-s.false-raw) c.entry_at-entry.ensures
+    ((spares c.before.before.before.before.before.before.before.before.before.before).passed c.if-s-sheet.false) (not-false _ c.if-not-listed-s.false-raw) c.entry_at-entry.ensures
     (ap relation_says c.in-Unequal.is) c.gap_of.ensures.0 c.tied_at.ensures
 
 pub returns-in_default : goal.returns-in_default

@@ -61,18 +61,21 @@ walk-requires c =
 
 pub returns-in-Nowhere : goal.returns-in-Nowhere
 returns-in-Nowhere c = λ listed.
+    let long : length c.args.s.there ≡ 129 = search rules in
     let says = rw c.in-Nowhere.is at c.walk.ensures in
-    round-nowhere c.requires.0 c.args.s c.requires.1 listed (bytes c.before.before.before.before.before.before.before.before) (omega (arith, there-long c.before.before.before.before.before.before.before.before.before.before.before.before.before.before.before.before.before)) (λ F. says _ F.goes)
+    round-nowhere c.requires.0 c.args.s c.requires.1 listed (bytes c.before.before.before.before.before.before.before.before) (omega arith) (λ F. says _ F.goes)
 
 pub returns-then-end-s : goal.returns-then-end-s
 returns-then-end-s c = λ listed.
+    let long : length c.args.s.there ≡ 129 = search rules in
     let l = c.if-zero-s.false in
-    round-told c.requires.0 c.args.s c.requires.1 listed (bytes c.before.before.before.before.before.before.before.before.before.before.before.before) (omega (arith, there-long c.before.before.before.before.before.before.before.before.before.before.before.before.before.before.before.before.before.before.before.before.before.before))
-    ((spares c.before.before.before.before.before.before.before.before.before.before.before.before.before.before).passed c.if-s-zero.false)
+    round-told c.requires.0 c.args.s c.requires.1 listed (bytes c.before.before.before.before.before.before.before.before.before.before.before.before) (omega arith)
+    ((spares c.before.before.before.before.before.before.before.before.before.before.before.before).passed c.if-s-zero.false)
     (falls-here (rw c.in-To.is at c.walk.ensures) l c.if-end-s.true c.under.ensures)
 
 pub returns-else-end-s : goal.returns-else-end-s
 returns-else-end-s c = λ listed.
+    let long : length c.args.s.there ≡ 129 = search rules in
     subst (TellsClosing _ _ _ _ _) (sym (ne_eqb _ _ c.if-end-s.false))
-    (round-nowhere c.requires.0 c.args.s c.requires.1 listed (bytes c.before.before.before.before.before.before.before.before.before.before.before) (omega (arith, there-long c.before.before.before.before.before.before.before.before.before.before.before.before.before.before.before.before.before.before.before.before.before))
+    (round-nowhere c.requires.0 c.args.s c.requires.1 listed (bytes c.before.before.before.before.before.before.before.before.before.before.before) (omega arith)
     (falls-there (rw c.in-To.is at c.walk.ensures) c.if-end-s.false))

@@ -2,6 +2,8 @@
 -- Assumes nothing.
 use native.Mathlib.Omega.{arith}
 use borrow.Author.Tests.{not-true, not-false}
+use Rattle.order.specs.First.{marked}
+use Rattle.sheet.specs.Decode.{sheet_of}
 use Rattle.verdict.proofs.Final.{with-terms, with-entered, refused, told}
 use Rattle.verdict.proofs.on.Goals as goal
 
@@ -18,7 +20,9 @@ put_terms-requires c = record {
 pub returns-then-not-put_terms : goal.returns-then-not-put_terms
 returns-then-not-put_terms c =
     let wf = c.requires.sized.1 in
-    refused _ _ wf c.count_terms.ensures.0 c.start.ensures (with-terms _ _ wf c.put_terms.ensures) (not-true _ c.if-not-put_terms.true-raw)
+    let both = refused (sheet_of c.args.sheet.now) (marked c.args.set.now) wf c.count_terms.ensures.0 c.start.ensures (with-terms _ _ wf c.put_terms.ensures)
+        (not-true _ c.if-not-put_terms.true-raw) in
+    record { judged = both.0; kept = both.1 }
 
 pub finish-requires : goal.finish-requires
 finish-requires c = record {
@@ -32,4 +36,5 @@ returns c =
     let wf = c.requires.sized.1 in
     let A = with-terms _ _ wf c.put_terms.ensures in
     let B = with-entered _ _ wf (not-false _ c.if-not-put_terms.false-raw) A c.finish.ensures in
-    rw c.told.ensures (told _ _ wf c.count_terms.ensures.0 c.start.ensures B)
+    let both = told _ _ wf c.count_terms.ensures.0 c.start.ensures B in
+    record { judged = rw c.told.ensures both.0; kept = both.1 }
