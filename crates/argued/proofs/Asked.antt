@@ -57,22 +57,6 @@ module _ {sheet froms tos codes names ties labels best room : List ℕ} {m liste
           way_back (points s) listed put froms tos codes l Y.drafted.sound (cell best) Y.grew.exact (Y.grew.shut l),
         )
 
-  pub gather-asks : {b n w : ℕ} → b ≡ cells → count ≤ n → walks_length ≤ w →
-      (Sized sheet × WellFormed s × (b ≡ cells))
-      × ((Sound (points s) (bounds listed froms tos codes) × (listed ≤ length names))
-      × (((length ties ≡ stride) × (length labels ≡ cells) × (count ≤ count_terms s) × (count ≤ n) × (walks_length ≤ w))
-      × (Laid s froms tos codes names names ties labels m listed count × ((b : ℕ) → b < m → get_or names b 0 < 1024))))
-  gather-asks p q r = (
-    (Y.sized, Y.formed, p),
-    (
-      (Y.drafted.sound, Y.all-names),
-      (
-        (Y.all-ties, Y.all-labels, few-ties Y.formed Y.drafted, q, r),
-        (Y.drafted.laid, ledger-name Y.formed Y.drafted),
-      ),
-    ),
-  )
-
   -- what is gathered can be written
   pub writable : {walks walks' : List ℕ} {need need' : List Bool} → Gathered s froms tos codes names ties count walks walks' need need' →
       walks_length ≤ length walks' → count ≤ length need' → Writable room ties names walks' need' k count

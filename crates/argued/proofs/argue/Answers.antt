@@ -91,13 +91,13 @@ module _ (K : After-list2) where
   codes = K.grow-g.new.codes
 
   abbrev names : List ℕ
-  names = K.lay-count.last.1.1.1.1.0
+  names = K.lay-count.new.names
 
   abbrev ties : List ℕ
-  ties = K.lay-count.last.1.1.1.1.1.1.1.0
+  ties = K.lay-count.new.ties
 
   abbrev labels : List ℕ
-  labels = K.lay-count.last.1.1.1.1.1.1.1.1.0
+  labels = K.lay-count.new.labels
 
   abbrev m : ℕ
   m = K.list-m.result
@@ -106,14 +106,14 @@ module _ (K : After-list2) where
   draft =
       drafted-of K.list-m.ensures K.grow-g.ensures.front K.grow-g.ensures.grew.ties K.grow-g.ensures.grew.sound K.lay-count.ensures
 
-  ready : Ready sheet froms tos codes names ties labels K.grow-g.new.d K.list-k.last.0 m K.grow-g.result.listed
+  ready : Ready sheet froms tos codes names ties labels K.grow-g.new.d K.list-k.new.room m K.grow-g.result.listed
       K.lay-count.result K.grow-g.result.put K.list-k.result
   ready =
       let pre = start.requires in
-      let W = pre.0.1 in
+      let W = pre.sized.1 in
       let F = K.grow-g.ensures.grew.ties in
       record {
-        sized = pre.0.0;
+        sized = pre.sized.0;
         formed = W;
         set = marked start.args.marks.now;
         drafted = draft;
@@ -131,8 +131,8 @@ module _ (K : After-list2) where
             );
         all-ties = omega (arith, K.lay-count.auto.ties);
         all-labels = omega (arith, K.lay-count.auto.labels);
-        all-cells = omega (arith, pre.0.2, K.grow-g.auto.d);
-        enough = omega (arith, pre.1.0.1, K.list-k.auto.room);
+        all-cells = omega (arith, pre.sized.2, K.grow-g.auto.d);
+        enough = omega (arith, pre.sheet_in_bounds.1, K.list-k.auto.room);
         few = omega (arith, few-listed K.list-k.ensures.listed, K.count_entries.ensures.0, W.entries);
       }
 
@@ -158,8 +158,8 @@ returns-then-put-listed c = record {
 
 pub broken-requires : goal.broken-requires
 broken-requires c =
-    let Y = all-put (ready c.before.before.before.before.before) c.if-put-listed.false in
-    let pre = (start c.before.before.before.before.before).requires in record {
+    let Y = all-put (ready c.before.before.before.before) c.if-put-listed.false in
+    let pre = (start c.before.before.before.before).requires in record {
       sized = (Y.sized, Y.formed);
       sheet_in_bounds = (pre.1.0.0, Y.all-cells);
       closed_table = Y.grew.exact.table.closed;
@@ -168,7 +168,7 @@ broken-requires c =
 
 pub by_entry-requires : goal.by_entry-requires
 by_entry-requires c = record {
-  ready = all-put (ready c.before.before.before.before.before.before.before.before.before.before.before.before.before.before) c.if-put-listed.false;
+  ready = all-put (ready c.before.before.before.before.before.before.before.before.before.before.before.before.before) c.if-put-listed.false;
   e_bound = (c.broken.ensures.0, c.broken.ensures.1.1);
 }
 
@@ -178,6 +178,6 @@ shape_of-d c =
 
 pub returns : goal.returns
 returns c = record {
-  argued = argued (lists c.before.before.before.before.before.before.before.before.before.before.before.before.before.before.before.before.before.before) (c.by_entry.ensures.closed _ c.broken.ensures.1.0 (draft c.before.before.before.before.before.before.before.before.before.before.before.before.before.before.before.before.before.before.before));
+  argued = argued (lists c.before.before.before.before.before.before.before.before.before.before.before.before.before.before.before.before.before.before) (c.by_entry.ensures.closed _ c.broken.ensures.1.0 (draft c.before.before.before.before.before.before.before.before.before.before.before.before.before.before.before.before.before.before));
   kept = kept_on c.grow-g.ensures.kept c.by_entry.ensures.kept;
 }

@@ -9,9 +9,9 @@ use Rattle.sheet.specs.Decode.{sheet_of}
 use Rattle.sheet.specs.Sheet.{count_terms}
 use Rattle.settled.specs.Settled.{points}
 use Rattle.sketch.specs.Sketch.{walks_length}
-use Rattle.drafted.proofs.Named.{few-ties, few-more-ties}
+use Rattle.drafted.proofs.Named.{few-ties, few-more-ties, ledger-name}
 use Rattle.drafted.proofs.Ready.{none-marked}
-use Rattle.argued.proofs.Asked.{few, names-fit, points-few, gather-asks, writable, left<, right<, labelled, both-asks}
+use Rattle.argued.proofs.Asked.{few, names-fit, points-few, writable, left<, right<, labelled, both-asks}
 use Rattle.argued.proofs.Closing.{path-marked, path-closes, tie-marked, tie-readable, tie-closes}
 use Rattle.argued.proofs.by_entry.Lts as lts
 use Rattle.argued.proofs.by_entry.Reads as reads
@@ -80,11 +80,18 @@ bounds-need-count c = omega (arith, few c.requires.ready)
 pub gather-requires : goal.gather-requires
 gather-requires c =
     let Y = c.requires.ready in
-    gather-asks Y Y.all-cells (omega (arith, few Y, marked-long c.before.before.before.before.before)) (omega arith)
+    record {
+      sized = (Y.sized, Y.formed, Y.all-cells);
+      sound = (Y.drafted.sound, Y.all-names);
+      ties_len = (Y.all-ties, Y.all-labels, few-ties Y.formed Y.drafted, omega (arith, few Y, marked-long c.before.before.before.before.before), omega arith);
+      laid = Y.drafted.laid;
+      by_index = ledger-name Y.formed Y.drafted;
+    }
 
 pub write_path-requires : goal.write_path-requires
 write_path-requires c =
-    let (Y, (x<, B)) = c.requires in (
+    let Y = c.requires.ready in
+    let (x<, B) = c.requires.e_bound in (
       writable Y c.gather.ensures.gathered (omega (arith, c.gather.auto.walks))
           (omega (arith, few Y, c.gather.auto.need, marked-long c.before.before.before.before.before.before.before.before.before.before.before.before.before)),
       path-marked Y c.entry_at-entry.result c.entry_at-entry.ensures x< B c.mark.ensures c.gather.ensures.gathered (count< c.before.before.before.before.before.before.before.before.before.before.before.before.before),
@@ -92,14 +99,16 @@ write_path-requires c =
 
 pub returns-then-together : goal.returns-then-together
 returns-then-together c =
-    let (Y, (x<, B)) = c.requires in record {
+    let Y = c.requires.ready in
+    let (x<, B) = c.requires.e_bound in record {
       closed = path-closes Y c.entry_at-entry.result c.entry_at-entry.ensures x< B c.mark.ensures c.gather.ensures.gathered (count< c.before.before.before.before.before.before.before.before.before.before.before.before.before.before.before.before) (none-marked stride) c.write_path.ensures;
       kept = c.gather.ensures.kept;
     }
 
 pub both-requires : goal.both-requires
 both-requires c =
-    let (Y, (x<, B)) = c.requires in
+    let Y = c.requires.ready in
+    let (x<, B) = c.requires.e_bound in
     let e = c.count_terms-n.ensures.0 in record {
       sound = both-asks Y c.entry_at-entry.result c.entry_at-entry.ensures x< e B;
       n_le_stride = (points-few Y e, omega (arith, left-few c.before.before.before.before.before.before.before.before, e), omega (arith, right-few c.before.before.before.before.before.before.before.before, e), Y.all-cells, omega arith, Y.all-names);
@@ -116,11 +125,11 @@ module _ (F : After-both) where
 
   few-more : start.args.count < 128
   few-more =
-      let Y = start.requires.0 in
+      let Y = start.requires.ready in
       omega (arith, few-more-ties Y.formed Y.drafted (left-few F.before.before.before.before.before.before.before.before) (right-few F.before.before.before.before.before.before.before.before) apart, Y.formed.terms)
 
   abbrev found-marks : List Bool
-  found-marks = F.both.last.1.1.1.1.1.1.1.1.1.0
+  found-marks = F.both.new.need
 
   found-long : length found-marks ≡ stride
   found-long = omega (arith, F.both.auto.need)
@@ -143,19 +152,32 @@ bounds-need-count-3 c = omega (arith, few-more c.before.before.before.before.bef
 
 pub gather-requires-2 : goal.gather-requires-2
 gather-requires-2 c =
-    let Y = (start c.before.before.before.before.before.before.before.before).requires.0 in
-    gather-asks Y (omega (arith, Y.all-cells, c.both.auto.best)) (omega (arith, few Y, all-marked-long c.before.before.before.before.before.before.before.before)) (omega arith)
+    let Y = c.requires.ready in
+    record {
+      sized = (Y.sized, Y.formed, omega (arith, Y.all-cells, c.both.auto.best));
+      sound = (Y.drafted.sound, Y.all-names);
+      ties_len = (
+        Y.all-ties,
+        Y.all-labels,
+        few-ties Y.formed Y.drafted,
+        omega (arith, few Y, all-marked-long c.before.before.before.before.before.before.before.before),
+        omega arith,
+      );
+      laid = Y.drafted.laid;
+      by_index = ledger-name Y.formed Y.drafted;
+    }
 
 module _ (G : After-gather2) where
   walks-as-long : length G.gather-2.new.walks ≡ length G.both.new.walks
   walks-as-long = G.gather-2.auto.walks
 
-  walks-full : walks_length ≤ length G.gather-2.last.1.1.1.1.1.1.1.1.1.1.1.1.0
+  walks-full : walks_length ≤ length G.gather-2.new.walks
   walks-full = omega (arith, walks-as-long, G.both.auto.walks)
 
 pub write_tie-requires : goal.write_tie-requires
 write_tie-requires c =
-    let (Y, (x<, B)) = c.requires in
+    let Y = c.requires.ready in
+    let (x<, B) = c.requires.e_bound in
     let e = c.count_terms-n.ensures.0 in
     let (h, h') =
     tie-marked Y c.entry_at-entry.result c.entry_at-entry.ensures x< B e c.both.ensures.found c.gather-2.ensures.gathered (next< c.before.before.before.before.before.before.before.before.before.before.before.before.before.before.before.before.before.before) (walks-as-long c.before.before.before.before.before.before.before.before.before.before) in record {
@@ -170,11 +192,12 @@ write_tie-requires c =
 
 pub returns : goal.returns
 returns c =
-    let (Y, (x<, B)) = c.requires in
+    let Y = c.requires.ready in
+    let (x<, B) = c.requires.e_bound in
     let e = c.count_terms-n.ensures.0 in
     let n : c.count_terms-n.result + 1 ≡ points (sheet_of c.args.sheet.now) = omega arith in record {
       closed = tie-closes Y c.entry_at-entry.result c.entry_at-entry.ensures x< B e c.both.ensures.found c.gather-2.ensures.gathered (next< c.before.before.before.before.before.before.before.before.before.before.before.before.before.before.before.before.before.before.before.before.before) (walks-as-long c.before.before.before.before.before.before.before.before.before.before.before.before.before)
-          c.wrapping_sub_u64-c.result (omega (arith, c.wrapping_sub_u64-c.type-inv)) (omega (arith, c.struct_known-3-1.given))
-          c.wrapping_sub_u64-c.ensures (apart c.before.before.before.before.before.before.before.before.before.before.before.before.before.before.before.before.before.before.before.before.before) (none-marked stride) c.write_tie.ensures;
+          c.wrapping_sub_u64-c.result (omega (arith, c.wrapping_sub_u64-c.type_inv)) (omega (arith, c.struct_known-3-1.given))
+          c.wrapping_sub_u64-c.ensures.value (apart c.before.before.before.before.before.before.before.before.before.before.before.before.before.before.before.before.before.before.before.before.before) (none-marked stride) c.write_tie.ensures;
       kept = kept_on (rw n at c.both.ensures.kept) c.gather-2.ensures.kept;
     }

@@ -6,9 +6,9 @@ use Rattle.cells.proofs.Keeps.{kept_on}
 use Rattle.sheet.specs.Decode.{sheet_of}
 use Rattle.settled.specs.Settled.{points}
 use Rattle.sketch.specs.Sketch.{walks_length}
-use Rattle.drafted.proofs.Named.{name_below}
+use Rattle.drafted.proofs.Named.{few-ties, name_below, ledger-name}
 use Rattle.drafted.proofs.Ready.{none-marked}
-use Rattle.argued.proofs.Asked.{nameable, few, names-fit, points-few, round-asks, gather-asks, writable}
+use Rattle.argued.proofs.Asked.{nameable, few, names-fit, points-few, round-asks, writable}
 use Rattle.argued.proofs.Closing.{round-marked, round-readable, round-closes}
 use Rattle.argued.proofs.by_round.Lts as lts
 use Rattle.argued.proofs.by_round.Reads as reads
@@ -49,7 +49,19 @@ count< F = omega (arith, few F.requires.0, need-long F)
 pub gather-requires : goal.gather-requires
 gather-requires c =
     let Y = c.requires.0 in
-    gather-asks Y (omega (arith, Y.all-cells, c.round.auto.best)) (omega (arith, few Y, marked-long c.before.before.before.before.before.before.before.before)) (omega arith)
+    record {
+      sized = (Y.sized, Y.formed, omega (arith, Y.all-cells, c.round.auto.best));
+      sound = (Y.drafted.sound, Y.all-names);
+      ties_len = (
+        Y.all-ties,
+        Y.all-labels,
+        few-ties Y.formed Y.drafted,
+        omega (arith, few Y, marked-long c.before.before.before.before.before.before.before.before),
+        omega arith,
+      );
+      laid = Y.drafted.laid;
+      by_index = ledger-name Y.formed Y.drafted;
+    }
 
 walks-long : (F : After-round) → length F.round.new.walks ≡ walks_length
 walks-long F = omega (arith, F.round.auto.walks)
