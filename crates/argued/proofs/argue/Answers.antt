@@ -159,11 +159,11 @@ returns-then-put-listed c = record {
 pub broken-requires : goal.broken-requires
 broken-requires c =
     let Y = all-put (ready c.before.before.before.before) c.if-put-listed.false in
-    let pre = (start c.before.before.before.before).requires in record {
+    let pre = c.requires in record {
       sized = (Y.sized, Y.formed);
-      sheet_in_bounds = (pre.1.0.0, Y.all-cells);
+      sheet_in_bounds = (pre.sheet_in_bounds.0, Y.all-cells);
       closed_table = Y.grew.exact.table.closed;
-      fact = some-broken Y.formed (draft c.before.before.before.before.before).ledger Y.grew pre.1.1;
+      fact = some-broken Y.formed (draft c.before.before.before.before).ledger Y.grew pre.clashes;
     }
 
 pub by_entry-requires : goal.by_entry-requires
