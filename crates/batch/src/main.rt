@@ -6,44 +6,52 @@
 ghost use Rattle.std.specs.Prelude.{◌≡◌};
 ghost use Rattle.batch.specs.Reply.{blank, Reply};
 
-use libc::{STDIN_FILENO, STDOUT_FILENO};
+use std::io;
+use std::io::{Read, Write};
 
-// The most bytes that a frame may count, as many as `io::buffer` has.
+// The most bytes that a frame may count.
 const MOST: usize = 4096;
 
 // The answer to a frame: number, place and room.
 const REPLY: usize = 3 + sheet::ROOM_NEEDED;
 
-fn main() {
-    // A proved loop has to end, and nothing says that the input does: it counts down from a number that no run uses up.
-    let mut turns = u64::MAX;
-    while turns > 0 && answer_frame() {
-        turns -= 1;
+fn main(rt: HostRuntime) -> io::Result<()> {
+    // A proved loop has to end, and nothing says that the input does: it counts up to a number that no run uses up.
+    for _ in 0..u64::MAX {
+        if !answer_frame(&mut rt.stdin(), &mut rt.stdout())? {
+            break;
+        }
     }
+    Ok(())
 }
 
 // Answers one frame; false where there is none.
-fn answer_frame() -> bool {
+fn answer_frame(input: &mut impl Read, output: &mut impl Write) -> io::Result<bool> {
     let mut count = [0u8; 2];
-    if io::read_full(STDIN_FILENO, &mut count) < 2 {
-        return false;
+    if streams::read_full(input, &mut count)? < 2 {
+        return Ok(false);
     }
     let k = big::read(&count, 0, 2) as usize;
     if MOST < k {
-        return false;
+        return Ok(false);
     }
-    let mut sheet = io::buffer();
-    answer_sheet(&mut sheet[..k])
+    let mut sheet = [0u8; MOST];
+    answer_sheet(input, output, &mut sheet[..k])
 }
 
 // Reads as many bytes as the frame counts, and answers them.
-fn answer_sheet(sheet: &mut [u8]) -> bool {
-    if io::read_full(STDIN_FILENO, sheet) < sheet.len() {
-        return false;
+fn answer_sheet(
+    input: &mut impl Read,
+    output: &mut impl Write,
+    sheet: &mut [u8],
+) -> io::Result<bool> {
+    if streams::read_full(input, sheet)? < sheet.len() {
+        return Ok(false);
     }
     let mut bytes = [0xAAu8; REPLY];
     reply(sheet, &mut bytes);
-    io::write_all(STDOUT_FILENO, &bytes)
+    output.write_all(&bytes)?;
+    Ok(true)
 }
 
 // Lends what is behind number and place as the answer room.

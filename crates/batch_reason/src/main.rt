@@ -9,55 +9,65 @@ ghost use Rattle.std.specs.Prelude.{ℕ, ◌≤◌, ◌<◌, ◌≡◌, true, �
 ghost use Rattle.paper.specs.Record.{reason_room};
 ghost use Rattle.batch_reason.specs.Reply.{blank, Reply};
 
-use libc::{STDIN_FILENO, STDOUT_FILENO};
+use std::io;
+use std::io::{Read, Write};
 
-// The most bytes of a sheet that a frame may count, as many as `io::buffer` has.
+// The most bytes of a sheet that a frame may count.
 const MOST: usize = 4096;
 
 // The answer to a frame: number, place and the largest room.
 const REPLY: usize = 5 + paper::ROOM;
 
-fn main() {
-    // A proved loop has to end, and nothing says that the input does: it counts down from a number that no run uses up.
-    let mut turns = u64::MAX;
-    while turns > 0 && answer_frame() {
-        turns -= 1;
+fn main(rt: HostRuntime) -> io::Result<()> {
+    // A proved loop has to end, and nothing says that the input does: it counts up to a number that no run uses up.
+    for _ in 0..u64::MAX {
+        if !answer_frame(&mut rt.stdin(), &mut rt.stdout())? {
+            break;
+        }
     }
+    Ok(())
 }
 
 // Answers one frame; false where there is none.
-fn answer_frame() -> bool {
+fn answer_frame(input: &mut impl Read, output: &mut impl Write) -> io::Result<bool> {
     let mut head = [0u8; 6];
-    if io::read_full(STDIN_FILENO, &mut head) < 6 {
-        return false;
+    if streams::read_full(input, &mut head)? < 6 {
+        return Ok(false);
     }
     let size = big::read(&head, 0, 4) as usize;
     if paper::ROOM < size {
-        return false;
+        return Ok(false);
     }
     let k = big::read(&head, 4, 2) as usize;
     if MOST < k {
-        return false;
+        return Ok(false);
     }
-    let mut sheet = io::buffer();
-    answer_sheet(&mut sheet[..k], size)
+    let mut sheet = [0u8; MOST];
+    answer_sheet(input, output, &mut sheet[..k], size)
 }
 
 // Reads as many bytes as the frame counts, and answers them.
-fn answer_sheet(sheet: &mut [u8], size: usize) -> bool
+fn answer_sheet(
+    input: &mut impl Read,
+    output: &mut impl Write,
+    sheet: &mut [u8],
+    size: usize,
+) -> io::Result<bool>
     requires { size ≤ reason_room }
 {
-    if io::read_full(STDIN_FILENO, sheet) < sheet.len() {
-        return false;
+    if streams::read_full(input, sheet)? < sheet.len() {
+        return Ok(false);
     }
     let mut bytes = [0xAAu8; REPLY];
     reply(sheet, size, &mut bytes);
     let end = 5 + size;
     if bytes[0] == 1 {
-        return io::write_all(STDOUT_FILENO, &bytes[..end]);
+        output.write_all(&bytes[..end])?;
+        return Ok(true);
     }
     bytes[5] = untouched(&bytes[5..end]) as u8;
-    io::write_all(STDOUT_FILENO, &bytes[..6])
+    output.write_all(&bytes[..6])?;
+    Ok(true)
 }
 
 // Lends what is behind number and place, as much as the frame asks for, as the room.

@@ -4,13 +4,14 @@
 // The answer is the check's number (one byte) and its place (four bytes).
 #![tactic(auto)]
 
-ghost use Rattle.std.specs.Prelude.{◌+◌, ◌≤◌, ◌≡◌, length};
+ghost use Rattle.std.specs.Prelude.{◌+◌, ◌≤◌, ◌≡◌, length, IfOk};
 ghost use Rattle.recited.specs.Recited.{longest};
 ghost use Rattle.batch_survey.specs.Reply.{most_steps, Reply};
 
-use libc::{STDIN_FILENO, STDOUT_FILENO};
+use std::io;
+use std::io::{Read, Write};
 
-// The most bytes of a sheet that a frame may count, as many as `io::buffer` has.
+// The most bytes of a sheet that a frame may count.
 const MOST: usize = 4096;
 
 // The most steps, and the bytes of so many of the longest.
@@ -18,89 +19,107 @@ const STEPS: usize = 256;
 
 const ROOM: usize = STEPS * recited::LONGEST;
 
-fn main() {
-    // A proved loop has to end, and nothing says that the input does: it counts down from a number that no run uses up.
-    let mut turns = u64::MAX;
-    while turns > 0 && answer_frame() {
-        turns -= 1;
+fn main(rt: HostRuntime) -> io::Result<()> {
+    // A proved loop has to end, and nothing says that the input does: it counts up to a number that no run uses up.
+    for _ in 0..u64::MAX {
+        if !answer_frame(&mut rt.stdin(), &mut rt.stdout())? {
+            break;
+        }
     }
+    Ok(())
 }
 
 // Answers one frame; false where there is none.
-fn answer_frame() -> bool {
+fn answer_frame(input: &mut impl Read, output: &mut impl Write) -> io::Result<bool> {
     let mut head = [0u8; 2];
-    if io::read_full(STDIN_FILENO, &mut head) < 2 {
-        return false;
+    if streams::read_full(input, &mut head)? < 2 {
+        return Ok(false);
     }
     let k = big::read(&head, 0, 2) as usize;
     if MOST < k {
-        return false;
+        return Ok(false);
     }
-    let mut sheet = io::buffer();
-    answer_sheet(&mut sheet[..k])
+    let mut sheet = [0u8; MOST];
+    answer_sheet(input, output, &mut sheet[..k])
 }
 
-fn answer_sheet(sheet: &mut [u8]) -> bool {
-    if io::read_full(STDIN_FILENO, sheet) < sheet.len() {
-        return false;
+fn answer_sheet(
+    input: &mut impl Read,
+    output: &mut impl Write,
+    sheet: &mut [u8],
+) -> io::Result<bool> {
+    if streams::read_full(input, sheet)? < sheet.len() {
+        return Ok(false);
     }
     let mut head = [0u8; 1];
-    if io::read_full(STDIN_FILENO, &mut head) < 1 {
-        return false;
+    if streams::read_full(input, &mut head)? < 1 {
+        return Ok(false);
     }
     let mut list = [0u8; 255];
     let j = big::read(&head, 0, 1) as usize;
-    answer_list(sheet, &mut list[..j])
+    answer_list(input, output, sheet, &mut list[..j])
 }
 
-fn answer_list(sheet: &[u8], list: &mut [u8]) -> bool {
-    if io::read_full(STDIN_FILENO, list) < list.len() {
-        return false;
+fn answer_list(
+    input: &mut impl Read,
+    output: &mut impl Write,
+    sheet: &[u8],
+    list: &mut [u8],
+) -> io::Result<bool> {
+    if streams::read_full(input, list)? < list.len() {
+        return Ok(false);
     }
     let mut head = [0u8; 2];
-    if io::read_full(STDIN_FILENO, &mut head) < 2 {
-        return false;
+    if streams::read_full(input, &mut head)? < 2 {
+        return Ok(false);
     }
     let m = big::read(&head, 0, 2) as usize;
     if STEPS < m {
-        return false;
+        return Ok(false);
     }
-    answer_steps(sheet, list, m)
+    answer_steps(input, output, sheet, list, m)
 }
 
-fn answer_steps(sheet: &[u8], list: &[u8], m: usize) -> bool
+fn answer_steps(
+    input: &mut impl Read,
+    output: &mut impl Write,
+    sheet: &[u8],
+    list: &[u8],
+    m: usize,
+) -> io::Result<bool>
     requires { m ≤ most_steps }
 {
     let mut bytes = [0u8; ROOM];
     let mut at = 0;
     let mut n = 0;
     while n < m {
-        let next = read_step(&mut bytes, at);
+        let next = read_step(input, &mut bytes, at)?;
         if next == at {
-            return false;
+            return Ok(false);
         }
         at = next;
         n += 1;
     }
     let mut answer = [0u8; 5];
     reply(sheet, list, &bytes[..at], &mut answer);
-    io::write_all(STDOUT_FILENO, &answer)
+    output.write_all(&answer)?;
+    Ok(true)
 }
 
 // Reads one step to the bytes from `at` on, and answers where it ends: at `at` where the input ends first.
-fn read_step(bytes: &mut [u8], at: usize) -> usize
+fn read_step(input: &mut impl Read, bytes: &mut [u8], at: usize) -> io::Result<usize>
     requires { at + longest ≤ length bytes.old }
-    ensures { (at ≤ result) × (result ≤ at + longest) }
+    ensures { IfOk result (λ end. (at ≤ end) × (end ≤ at + longest)) }
 {
     let bounds = at + recited::STEP;
-    if io::read_full(STDIN_FILENO, &mut bytes[at..bounds]) < recited::STEP {
-        return at;
+    if streams::read_full(input, &mut bytes[at..bounds])? < recited::STEP {
+        return Ok(at);
     }
     let end = at + recited::size(bytes, at);
-    if io::read_full(STDIN_FILENO, &mut bytes[bounds..end]) < end - bounds {
-        return at;
+    if streams::read_full(input, &mut bytes[bounds..end])? < end - bounds {
+        return Ok(at);
     }
-    end
+    Ok(end)
 }
 
 // Number and place of the check.

@@ -7,54 +7,63 @@
 ghost use Rattle.std.specs.Prelude.{◌≤◌, ◌≡◌, length};
 ghost use Rattle.batch_text.specs.Reply.{most_room, most_text, blank, Reply};
 
-use libc::{STDIN_FILENO, STDOUT_FILENO};
+use std::io;
+use std::io::{Read, Write};
 
 // The largest room that a frame may ask for.
 const MOST_ROOM: usize = 2048;
 
-// The most bytes of text that a frame may count, as many as `io::large_buffer` has.
+// The most bytes of text that a frame may count.
 const MOST_TEXT: usize = 65536;
 
 // The answer to a frame: number, place and the largest room.
 const REPLY: usize = 5 + MOST_ROOM;
 
-fn main() {
-    // A proved loop has to end, and nothing says that the input does: it counts down from a number that no run uses up.
-    let mut turns = u64::MAX;
-    while turns > 0 && answer_frame() {
-        turns -= 1;
+fn main(rt: HostRuntime) -> io::Result<()> {
+    // A proved loop has to end, and nothing says that the input does: it counts up to a number that no run uses up.
+    for _ in 0..u64::MAX {
+        if !answer_frame(&mut rt.stdin(), &mut rt.stdout())? {
+            break;
+        }
     }
+    Ok(())
 }
 
 // Answers one frame; false where there is none.
-fn answer_frame() -> bool {
+fn answer_frame(input: &mut impl Read, output: &mut impl Write) -> io::Result<bool> {
     let mut head = [0u8; 6];
-    if io::read_full(STDIN_FILENO, &mut head) < 6 {
-        return false;
+    if streams::read_full(input, &mut head)? < 6 {
+        return Ok(false);
     }
     let size = big::read(&head, 0, 2) as usize;
     if MOST_ROOM < size {
-        return false;
+        return Ok(false);
     }
     let k = big::read(&head, 2, 4) as usize;
     if MOST_TEXT < k {
-        return false;
+        return Ok(false);
     }
-    let mut text = io::large_buffer();
-    answer_text(&mut text[..k], size)
+    let mut text = [0u8; MOST_TEXT];
+    answer_text(input, output, &mut text[..k], size)
 }
 
 // Reads as many bytes as the frame counts, and answers them.
-fn answer_text(text: &mut [u8], size: usize) -> bool
+fn answer_text(
+    input: &mut impl Read,
+    output: &mut impl Write,
+    text: &mut [u8],
+    size: usize,
+) -> io::Result<bool>
     requires { (length text.old ≤ most_text) × (size ≤ most_room) }
 {
-    if io::read_full(STDIN_FILENO, text) < text.len() {
-        return false;
+    if streams::read_full(input, text)? < text.len() {
+        return Ok(false);
     }
     let mut bytes = [0xAAu8; REPLY];
     reply(text, size, &mut bytes);
     let end = 5 + size;
-    io::write_all(STDOUT_FILENO, &bytes[..end])
+    output.write_all(&bytes[..end])?;
+    Ok(true)
 }
 
 // Lends what is behind number and place, as much as the frame asks for, as the room.

@@ -9,68 +9,66 @@ mod words;
 
 use crate::records::byte;
 use crate::words::{say, say_number};
-use libc::STDIN_FILENO;
 use reason::Reply;
 use refusal::Refusal;
 use sheet::EntryNumber;
+use std::io;
 
-fn main() {
+fn main(rt: HostRuntime) -> io::Result<()> {
     let mut bytes = [0u8; sheet::LONGEST + 1];
-    let lent = io::read_full(STDIN_FILENO, &mut bytes);
+    let lent = streams::read_full(&mut rt.stdin(), &mut bytes)?;
     let mut room = [0u8; paper::ROOM];
     match reason::reason(&bytes[..lent], &mut room) {
-        Reply::Written(_) => {
-            explain(&bytes[..lent], &room);
-        }
+        Reply::Written(_) => explain(&rt, &bytes[..lent], &room),
         // the room has the size that is always enough
-        Reply::Short => {}
-        Reply::Holds => {
-            say(b"holds\n");
-        }
-        Reply::Refused(why) => {
-            say_refused(why);
-        }
+        Reply::Short => Ok(()),
+        Reply::Holds => say(&rt, b"holds\n"),
+        Reply::Refused(why) => say_refused(&rt, why),
     }
 }
 
-fn say_refused(why: Refusal) {
-    say(b"refused ");
-    say_number(why.number() as u64);
-    say(b" at ");
-    say_number(why.place() as u64);
-    say(b"\n");
+fn say_refused(rt: &impl Print, why: Refusal) -> io::Result<()> {
+    say(rt, b"refused ")?;
+    say_number(rt, why.number() as u64)?;
+    say(rt, b" at ")?;
+    say_number(rt, why.place() as u64)?;
+    say(rt, b"\n")
 }
 
 // The list, its entries in words, the terms that aren't written out where they stand, and the steps.
-fn explain(sheet: &[u8], record: &[u8]) {
+fn explain(rt: &impl Print, sheet: &[u8], record: &[u8]) -> io::Result<()> {
     let k = records::pair(record, 6);
     let sizes = words::sizes(sheet);
-    say_list(record, k);
-    say_entries(sheet, &sizes, record, k);
-    words::say_large(sheet, &sizes);
-    reasoning::say_all(sheet, &sizes, record, k);
+    say_list(rt, record, k)?;
+    say_entries(rt, sheet, &sizes, record, k)?;
+    words::say_large(rt, sheet, &sizes)?;
+    reasoning::say_all(rt, sheet, &sizes, record, k)
 }
 
 // Each entry's number after a space.
-fn say_list(record: &[u8], k: u16) {
-    say(b"clashes");
-    let mut x = 0;
-    while x < k {
-        say(b" ");
-        say_number(byte(record, paper::HEAD + x as usize) as u64);
-        x += 1;
+fn say_list(rt: &impl Print, record: &[u8], k: u16) -> io::Result<()> {
+    say(rt, b"clashes")?;
+    for x in 0..k {
+        say(rt, b" ")?;
+        say_number(rt, byte(record, paper::HEAD + x as usize) as u64)?;
     }
-    say(b"\n");
+    say(rt, b"\n")
 }
 
-fn say_entries(sheet: &[u8], sizes: &[u8; 256], record: &[u8], k: u16) {
-    let mut x = 0;
-    while x < k {
+fn say_entries(
+    rt: &impl Print,
+    sheet: &[u8],
+    sizes: &[u8; 256],
+    record: &[u8],
+    k: u16,
+) -> io::Result<()> {
+    for x in 0..k {
         words::say_entry(
+            rt,
             sheet,
             sizes,
             EntryNumber(byte(record, paper::HEAD + x as usize)),
-        );
-        x += 1;
+        )?;
     }
+    Ok(())
 }

@@ -5,6 +5,7 @@ use crate::records;
 use crate::records::byte;
 use crate::words::{gap_of, say, say_entry, say_gap, say_number, say_point};
 use sheet::{EntryNumber, Relation, Term, TermNumber};
+use std::io;
 
 // The most steps of a reason, and the bytes of one without its bounds.
 const MOST: usize = sheet::MAX_TERMS + 1;
@@ -21,23 +22,37 @@ struct Leg {
 }
 
 // The steps of a record, which begin behind its list of k entries.
-pub fn say_all(sheet: &[u8], sizes: &[u8; 256], record: &[u8], k: u16) {
+pub fn say_all(
+    rt: &impl Print,
+    sheet: &[u8],
+    sizes: &[u8; 256],
+    record: &[u8],
+    k: u16,
+) -> io::Result<()> {
     let count = records::pair(record, 8) as usize;
     let mut starts = [0u32; 256];
     let mut at = paper::HEAD as u32 + k as u32;
     let mut n = 0;
     while n < MOST && n < count {
         starts[n] = at;
-        say(b"step ");
-        say_number(n as u64);
-        say(b": ");
-        at += say_step(sheet, sizes, record, &starts, at) as u32;
+        say(rt, b"step ")?;
+        say_number(rt, n as u64)?;
+        say(rt, b": ")?;
+        at += say_step(rt, sheet, sizes, record, &starts, at)? as u32;
         n += 1;
     }
+    Ok(())
 }
 
 // The step that begins at `at`; how many bytes it has.
-fn say_step(sheet: &[u8], sizes: &[u8; 256], record: &[u8], starts: &[u32; 256], at: u32) -> u16 {
+fn say_step(
+    rt: &impl Print,
+    sheet: &[u8],
+    sizes: &[u8; 256],
+    record: &[u8],
+    starts: &[u32; 256],
+    at: u32,
+) -> io::Result<u16> {
     let first = at as usize;
     let a = byte(record, first + 1);
     let b = byte(record, first + 2);
@@ -46,68 +61,88 @@ fn say_step(sheet: &[u8], sizes: &[u8; 256], record: &[u8], starts: &[u32; 256],
     let second = HEAD + 2 * there as u16;
     match byte(record, first) {
         0 => {
-            say_tied(sheet, sizes, a, b, records::step_c(record, at));
-            say_walk(sheet, sizes, record, starts, a, at, HEAD, there);
-            say_walk(sheet, sizes, record, starts, b, at, second, back);
+            say_tied(rt, sheet, sizes, a, b, records::step_c(record, at))?;
+            say_walk(rt, sheet, sizes, record, starts, a, at, HEAD, there)?;
+            say_walk(rt, sheet, sizes, record, starts, b, at, second, back)?;
         }
         1 => {
-            say_tied(sheet, sizes, a, b, 0);
-            say_arguments(sheet, sizes, a, b);
+            say_tied(rt, sheet, sizes, a, b, 0)?;
+            say_arguments(rt, sheet, sizes, a, b)?;
         }
         2 => {
-            say(b"a walk that closes\n");
-            say_walk(sheet, sizes, record, starts, a, at, HEAD, there);
-            say(b"  which can't be\n");
+            say(rt, b"a walk that closes\n")?;
+            say_walk(rt, sheet, sizes, record, starts, a, at, HEAD, there)?;
+            say(rt, b"  which can't be\n")?;
         }
         _ => {
-            say_entry(sheet, sizes, EntryNumber(a));
-            say(b"  which can't be: by the ties they are equal\n");
+            say_entry(rt, sheet, sizes, EntryNumber(a))?;
+            say(rt, b"  which can't be: by the ties they are equal\n")?;
         }
     }
-    second + 2 * back as u16
+    Ok(second + 2 * back as u16)
 }
 
-fn say_tied(sheet: &[u8], sizes: &[u8; 256], a: u8, b: u8, c: u64) {
-    say_point(sheet, sizes, a);
-    say(b" = ");
-    say_point(sheet, sizes, b);
-    say_gap(c);
-    say(b"\n");
+fn say_tied(
+    rt: &impl Print,
+    sheet: &[u8],
+    sizes: &[u8; 256],
+    a: u8,
+    b: u8,
+    c: u64,
+) -> io::Result<()> {
+    say_point(rt, sheet, sizes, a)?;
+    say(rt, b" = ")?;
+    say_point(rt, sheet, sizes, b)?;
+    say_gap(rt, c)?;
+    say(rt, b"\n")
 }
 
 // That the arguments of two applications are tied.
-fn say_arguments(sheet: &[u8], sizes: &[u8; 256], i: u8, j: u8) {
+fn say_arguments(rt: &impl Print, sheet: &[u8], sizes: &[u8; 256], i: u8, j: u8) -> io::Result<()> {
     let f = records::term(sheet, TermNumber(i));
     let g = records::term(sheet, TermNumber(j));
     match f {
-        Term::Apply(_, a) => say_first(sheet, sizes, a, g),
+        Term::Apply(_, a) => say_first(rt, sheet, sizes, a, g),
         Term::Apply2(_, a, b) => {
-            say_first(sheet, sizes, a, g);
-            say_second(sheet, sizes, b, g);
+            say_first(rt, sheet, sizes, a, g)?;
+            say_second(rt, sheet, sizes, b, g)
         }
-        _ => {}
+        _ => Ok(()),
     }
 }
 
-fn say_first(sheet: &[u8], sizes: &[u8; 256], a: TermNumber, g: Term) {
-    say(b"  since ");
+fn say_first(
+    rt: &impl Print,
+    sheet: &[u8],
+    sizes: &[u8; 256],
+    a: TermNumber,
+    g: Term,
+) -> io::Result<()> {
+    say(rt, b"  since ")?;
     match g {
-        Term::Apply(_, c) => say_tied(sheet, sizes, a.0, c.0, 0),
-        Term::Apply2(_, c, _) => say_tied(sheet, sizes, a.0, c.0, 0),
-        _ => {}
+        Term::Apply(_, c) => say_tied(rt, sheet, sizes, a.0, c.0, 0),
+        Term::Apply2(_, c, _) => say_tied(rt, sheet, sizes, a.0, c.0, 0),
+        _ => Ok(()),
     }
 }
 
-fn say_second(sheet: &[u8], sizes: &[u8; 256], b: TermNumber, g: Term) {
-    say(b"  and ");
+fn say_second(
+    rt: &impl Print,
+    sheet: &[u8],
+    sizes: &[u8; 256],
+    b: TermNumber,
+    g: Term,
+) -> io::Result<()> {
+    say(rt, b"  and ")?;
     match g {
-        Term::Apply2(_, _, d) => say_tied(sheet, sizes, b.0, d.0, 0),
-        _ => {}
+        Term::Apply2(_, _, d) => say_tied(rt, sheet, sizes, b.0, d.0, 0),
+        _ => Ok(()),
     }
 }
 
 // The bounds of a walk from a, `skip` bytes behind where its step begins, and what they come to.
 fn say_walk(
+    rt: &impl Print,
     sheet: &[u8],
     sizes: &[u8; 256],
     record: &[u8],
@@ -116,7 +151,7 @@ fn say_walk(
     at: u32,
     skip: u16,
     count: u8,
-) {
+) -> io::Result<()> {
     let first = at as usize + skip as usize;
     let mut sum = Leg {
         from: a,
@@ -124,23 +159,22 @@ fn say_walk(
         c: 0,
         strict: false,
     };
-    let mut x = 0;
-    while x < count {
+    for x in 0..count {
         let bound = first + 2 * x as usize;
         let leg = say_bound(
+            rt,
             sheet,
             sizes,
             record,
             starts,
             byte(record, bound),
             byte(record, bound + 1),
-        );
+        )?;
         sum = behind(sum, leg);
-        x += 1;
     }
-    say(b"  so ");
-    say_leg(sheet, sizes, sum);
-    say(b"\n");
+    say(rt, b"  so ")?;
+    say_leg(rt, sheet, sizes, sum)?;
+    say(rt, b"\n")
 }
 
 fn behind(sum: Leg, leg: Leg) -> Leg
@@ -155,35 +189,36 @@ fn behind(sum: Leg, leg: Leg) -> Leg
 }
 
 fn say_bound(
+    rt: &impl Print,
     sheet: &[u8],
     sizes: &[u8; 256],
     record: &[u8],
     starts: &[u32; 256],
     kind: u8,
     n: u8,
-) -> Leg {
+) -> io::Result<Leg> {
     let leg = leg_of(sheet, record, starts, kind, n);
-    say(b"  ");
-    say_leg(sheet, sizes, leg);
+    say(rt, b"  ")?;
+    say_leg(rt, sheet, sizes, leg)?;
     match kind / 2 {
-        0 => say(b" by entry "),
-        1 => say(b" by term "),
-        _ => say(b" by step "),
-    }
-    say_number(n as u64);
-    say(b"\n");
-    leg
+        0 => say(rt, b" by entry "),
+        1 => say(rt, b" by term "),
+        _ => say(rt, b" by step "),
+    }?;
+    say_number(rt, n as u64)?;
+    say(rt, b"\n")?;
+    Ok(leg)
 }
 
-fn say_leg(sheet: &[u8], sizes: &[u8; 256], leg: Leg) {
-    say_point(sheet, sizes, leg.from);
+fn say_leg(rt: &impl Print, sheet: &[u8], sizes: &[u8; 256], leg: Leg) -> io::Result<()> {
+    say_point(rt, sheet, sizes, leg.from)?;
     if leg.strict {
-        say(b" < ");
+        say(rt, b" < ")?;
     } else {
-        say(b" <= ");
+        say(rt, b" <= ")?;
     }
-    say_point(sheet, sizes, leg.to);
-    say_gap(leg.c);
+    say_point(rt, sheet, sizes, leg.to)?;
+    say_gap(rt, leg.c)
 }
 
 // A bound by its kind and number, the odd kinds backwards.

@@ -3,21 +3,18 @@
 // It is thin over the panel, and prints the number and the place of each answer on a line.
 #![tactic(auto)]
 
-use libc::{STDIN_FILENO, STDOUT_FILENO};
 use promise::Answer;
+use std::io;
 
-fn main() {
+fn main(rt: HostRuntime) -> io::Result<()> {
     let mut bytes = [0u8; sheet::LONGEST + 1];
-    let lent = io::read_full(STDIN_FILENO, &mut bytes);
+    let lent = streams::read_full(&mut rt.stdin(), &mut bytes)?;
     let mut short = [0u8; 1031];
-    print_answer(panel::judge(&bytes[..lent], &mut short));
+    print_answer(&rt, panel::judge(&bytes[..lent], &mut short))?;
     let mut enough = [0u8; 1032];
-    print_answer(panel::judge(&bytes[..lent], &mut enough));
+    print_answer(&rt, panel::judge(&bytes[..lent], &mut enough))
 }
 
-fn print_answer(answer: Answer) {
-    io::print_decimal(STDOUT_FILENO, answer.number() as u64);
-    io::write_all(STDOUT_FILENO, b" ");
-    io::print_decimal(STDOUT_FILENO, answer.place() as u64);
-    io::write_all(STDOUT_FILENO, b"\n");
+fn print_answer(rt: &impl Print, answer: Answer) -> io::Result<()> {
+    println!(rt; "{} {}", answer.number(), answer.place())
 }

@@ -2,25 +2,33 @@
 // one line: `yes`, `wrong at N`, `refused N at P`, or `no reason record`.
 #![tactic(auto)]
 
+ghost use Rattle.std.specs.Prelude.{◌≡◌, length};
 ghost use Rattle.surveyor.specs.Surveyed.{number_of, place_of};
 ghost use Rattle.recited.specs.Recited.{IsRecord};
 ghost use Rattle.survey.specs.Parts.{SheetPart, Checked};
 
-use libc::{STDIN_FILENO, STDOUT_FILENO};
+use std::io;
 use surveyor::Survey;
 
 // The bytes that are read, more than any sheet and any reason for it have.
 const ROOM: usize = 524288;
 
-fn main() {
-    let mut bytes = [0u8; ROOM];
-    let n = io::read_full(STDIN_FILENO, &mut bytes);
-    tell(&bytes[..n]);
+fn main(rt: HostRuntime) -> io::Result<()> {
+    let mut bytes = room();
+    let n = streams::read_full(&mut rt.stdin(), &mut bytes)?;
+    tell(&rt, &bytes[..n])
 }
 
-fn tell(bytes: &[u8]) {
+// The bytes before they are read. Only their count is told, since a proof would go through each of them.
+fn room() -> [u8; ROOM]
+    ensures { 524288 ≡ length result }
+{
+    [0; ROOM]
+}
+
+fn tell(rt: &impl Print, bytes: &[u8]) -> io::Result<()> {
     let k = sheet_length(bytes);
-    tell_record(&bytes[..k], &bytes[k..]);
+    tell_record(rt, &bytes[..k], &bytes[k..])
 }
 
 // How many of the bytes are the sheet's.
@@ -42,14 +50,13 @@ fn sheet_length(bytes: &[u8]) -> usize
 }
 
 // A sheet that is sent back is so whatever stands behind it.
-fn tell_record(sheet: &[u8], record: &[u8]) {
+fn tell_record(rt: &impl Print, sheet: &[u8], record: &[u8]) -> io::Result<()> {
     if recited::is_record(record) {
-        print(check_record(sheet, record));
-        return;
+        return print(rt, check_record(sheet, record));
     }
     match recited::check(sheet, &record[..0], &record[..0]) {
-        Survey::Refused(why) => print(Survey::Refused(why)),
-        _ => say(b"no reason record\n"),
+        Survey::Refused(why) => print(rt, Survey::Refused(why)),
+        _ => say(rt, b"no reason record\n"),
     }
 }
 
@@ -62,28 +69,28 @@ fn check_record(sheet: &[u8], record: &[u8]) -> Survey
     recited::check(sheet, &record[recited::HEAD..k], &record[k..])
 }
 
-fn print(told: Survey) {
+fn print(rt: &impl Print, told: Survey) -> io::Result<()> {
     match told {
-        Survey::Yes => say(b"yes\n"),
+        Survey::Yes => say(rt, b"yes\n"),
         Survey::Wrong(n) => {
-            say(b"wrong at ");
-            say_number(n);
-            say(b"\n");
+            say(rt, b"wrong at ")?;
+            say_number(rt, n)?;
+            say(rt, b"\n")
         }
         _ => {
-            say(b"refused ");
-            say_number(told.number());
-            say(b" at ");
-            say_number(told.place());
-            say(b"\n");
+            say(rt, b"refused ")?;
+            say_number(rt, told.number())?;
+            say(rt, b" at ")?;
+            say_number(rt, told.place())?;
+            say(rt, b"\n")
         }
     }
 }
 
-fn say(words: &[u8]) {
-    io::write_all(STDOUT_FILENO, words);
+fn say(rt: &impl Print, words: &[u8]) -> io::Result<()> {
+    rt.write_all(words)
 }
 
-fn say_number(n: u8) {
-    io::print_decimal(STDOUT_FILENO, n as u64);
+fn say_number(rt: &impl Print, n: u8) -> io::Result<()> {
+    rt.print(n)
 }

@@ -1,16 +1,8 @@
 -- `batch_survey::reply` meets its contract: number and place are read back as they were written.
 -- Assumes nothing.
-use mathlib.Core.Path.{◌∙◌}
-use lib.ListN.{length-set}
+use Rattle.std.proofs.Common.{◌∙◌, arith}
 use lib.Seq.{get_or-set_same}
-use native.Mathlib.Omega.{arith}
 use Rattle.batch_survey.proofs.reply.Goals as goal
-
-pub write-requires : goal.write-requires
-write-requires c = (simp length-set (omega (arith, c.requires)), omega arith)
-
-pub shape_of-bytes : goal.shape_of-bytes
-shape_of-bytes c = c.write.auto.out ∙ simp length-set (omega (arith, c.requires))
 
 pub returns : goal.returns
 returns c =

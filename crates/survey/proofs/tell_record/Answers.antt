@@ -3,4 +3,4 @@
 use Rattle.survey.proofs.tell_record.Goals as goal
 
 pub check_record-requires : goal.check_record-requires
-check_record-requires c = c.is_record.ensures.yes c.if-is_record.true
+check_record-requires g c = c.is_record.ensures.yes c.if-is_record.true
