@@ -102,4 +102,3 @@ no-application f g n m = unlike (λ Alike I. go f n m I)
     go (Shift a c) n m I = elim I [ ]
     go (Apply x a) n m I = n x a refl
     go (Apply2 x a b) n m I = m x a b refl
-

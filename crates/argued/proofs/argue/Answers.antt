@@ -38,11 +38,11 @@ grow-g-requires c =
     let W = pre.sized.1 in record {
       sized = pre.sized;
       froms_len = (
-          omega (arith, c.list-m.auto.froms),
-          omega (arith, c.list-m.auto.tos),
-          omega (arith, c.list-m.auto.codes),
-          omega (arith, c.list-m.ensures.few, W.terms, W.entries),
-        );
+        omega (arith, c.list-m.auto.froms),
+        omega (arith, c.list-m.auto.tos),
+        omega (arith, c.list-m.auto.codes),
+        omega (arith, c.list-m.ensures.few, W.terms, W.entries),
+      );
       sound = c.list-m.ensures.sound;
     }
 
@@ -53,13 +53,13 @@ lay-count-requires c =
     let F = c.grow-g.ensures.grew.ties in record {
       sized = (pre.sized.0, pre.sized.1);
       froms_len = (
-          omega (arith, c.grow-g.auto.froms, c.list-m.auto.froms),
-          omega (arith, c.grow-g.auto.tos, c.list-m.auto.tos),
-          omega (arith, c.list-m.auto.names),
-          omega arith,
-          omega arith,
-          omega (arith, c.list-m.ensures.few, W.terms, W.entries, F.listed-is, F.few),
-        );
+        omega (arith, c.grow-g.auto.froms, c.list-m.auto.froms),
+        omega (arith, c.grow-g.auto.tos, c.list-m.auto.tos),
+        omega (arith, c.list-m.auto.names),
+        omega arith,
+        omega arith,
+        omega (arith, c.list-m.ensures.few, W.terms, W.entries, F.listed-is, F.few),
+      );
       function_ties = F;
     }
 

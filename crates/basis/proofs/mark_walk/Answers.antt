@@ -15,9 +15,9 @@ loop-x-init c = (omega arith, omega arith, added_none (λ e A. among_none A))
 pub loop-x-preserved : goal.loop-x-preserved
 loop-x-preserved c =
     let loop = c.loop-x in
-    elim c.if-name-lt-TERM.branch
-    [ then-name-lt-TERM w ↦ rw w.entries-is (omega arith, simp length-set loop.invariant.1, added-entry loop.invariant.2 (omega (arith, w.if-name-lt-TERM.true)) (omega arith))
-    | else-name-lt-TERM w ↦ rw w.entries-is (omega arith, loop.invariant.1, added-other loop.invariant.2 (omega (arith, w.if-name-lt-TERM.false)))
+    elim c.if-name-lt-TERM.branch [
+      | then-name-lt-TERM w ↦ rw w.entries-is (omega arith, simp length-set loop.invariant.1, added-entry loop.invariant.2 (omega (arith, w.if-name-lt-TERM.true)) (omega arith))
+      | else-name-lt-TERM w ↦ rw w.entries-is (omega arith, loop.invariant.1, added-other loop.invariant.2 (omega (arith, w.if-name-lt-TERM.false)))
     ]
 
 pub returns : goal.returns

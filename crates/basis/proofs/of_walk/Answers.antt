@@ -18,9 +18,9 @@ only-requires c =
 pub loop-x-preserved : goal.loop-x-preserved
 loop-x-preserved c =
     let loop = c.loop-x in
-    elim c.if-name-ge-TIE.branch
-    [ then-name-ge-TIE w ↦ rw w.ties-is (omega arith, adds-tie loop.invariant.1 w.only.result (omega (arith, w.if-name-ge-TIE.true)) w.only.ensures w.either-ties.ensures)
-    | else-name-ge-TIE w ↦ rw w.ties-is (omega arith, adds-other loop.invariant.1 (omega (arith, w.if-name-ge-TIE.false)))
+    elim c.if-name-ge-TIE.branch [
+      | then-name-ge-TIE w ↦ rw w.ties-is (omega arith, adds-tie loop.invariant.1 w.only.result (omega (arith, w.if-name-ge-TIE.true)) w.only.ensures w.either-ties.ensures)
+      | else-name-ge-TIE w ↦ rw w.ties-is (omega arith, adds-other loop.invariant.1 (omega (arith, w.if-name-ge-TIE.false)))
     ]
 
 pub returns : goal.returns

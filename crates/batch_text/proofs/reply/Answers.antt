@@ -10,11 +10,10 @@ use Rattle.batch_text.proofs.reply.Goals as goal
 
 -- a place fits its four bytes
 pub write-requires : goal.write-requires
-write-requires c =
-    (
-      simp length-set (omega (arith, ap length c.requires.2)),
-      omega (arith, place-within c.transcribe-typed.ensures most_text c.requires.0 (omega arith)),
-    )
+write-requires c = (
+  simp length-set (omega (arith, ap length c.requires.2)),
+  omega (arith, place-within c.transcribe-typed.ensures most_text c.requires.0 (omega arith)),
+)
 
 pub returns : goal.returns
 returns c =

@@ -38,14 +38,13 @@ sum-requires c =
     c.requires.by_index _ (omega arith) (omega arith)
 
 pub loop-j-preserved : goal.loop-j-preserved
-loop-j-preserved c =
-    (
-      refl,
-      omega arith,
-      omega arith,
-      simp length-set (omega arith),
-      one_more _ _ _ _ _ _ _ _ _ c.loop-j.invariant.4 (omega arith) (omega arith) c.sum.ensures.code c.tighter.ensures.code,
-    )
+loop-j-preserved c = (
+  refl,
+  omega arith,
+  omega arith,
+  simp length-set (omega arith),
+  one_more _ _ _ _ _ _ _ _ _ c.loop-j.invariant.4 (omega arith) (omega arith) c.sum.ensures.code c.tighter.ensures.code,
+)
 
 pub returns-after-loop-j : goal.returns-after-loop-j
 returns-after-loop-j c =

@@ -19,8 +19,7 @@ loop-j-init c = (refl, omega arith, refl, λ k h. absurd (omega arith))
 
 pub loop-j-preserved : goal.loop-j-preserved
 loop-j-preserved c =
-    let loop = c.loop-j in
-    (
+    let loop = c.loop-j in (
       refl,
       omega arith,
       simp length-set (omega arith),

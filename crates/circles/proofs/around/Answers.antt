@@ -13,12 +13,10 @@ use Rattle.circles.proofs.around.Goals as goal
 
 taken : (b : Bool) (p q : Bool) → b ≡ true → cond b p q ≡ p
 taken true p q e = refl
-
 taken false p q e = absurd (true≢false (sym e))
 
 passed : (b : Bool) (p q : Bool) → b ≡ false → cond b p q ≡ q
 passed true p q e = absurd (true≢false e)
-
 passed false p q e = refl
 
 module _ (m : List ℕ) (x y sum due : ℕ) where

@@ -8,8 +8,10 @@ use Rattle.circles.proofs.loosen.Goals.{then-x-lt-PLACES+else-not-around, else-x
 
 pub loop-i-preserved : goal.loop-i-preserved
 loop-i-preserved c =
-    let kept = c.walk-x.ensures.worked ∙ c.loop-i.invariant.0 in
-    ((elim c.if-x-lt-PLACES.branch
-    [ then-x-lt-PLACES+else-not-around w ↦ rw w.m-is (w.free.ensures ∙ kept)
-    | else-x-lt-PLACES w ↦ rw w.m-is kept
-    ]), omega arith)
+    let kept = c.walk-x.ensures.worked ∙ c.loop-i.invariant.0 in (
+      (elim c.if-x-lt-PLACES.branch [
+        | then-x-lt-PLACES+else-not-around w ↦ rw w.m-is (w.free.ensures ∙ kept)
+        | else-x-lt-PLACES w ↦ rw w.m-is kept
+      ]),
+      omega arith,
+    )

@@ -48,10 +48,10 @@ loop-i-preserved c =
       refl,
       omega arith,
       simp length-set (omega arith),
-      one_more _ _ _ _ _ _ _ _ (omega arith) (omega arith) (elim c.if-own-from.branch
-    [ then-own-from w ↦ w.labels-is ∙ taken _ _ _ _ _ _ loop.invariant.5 (omega arith) w.if-own-from.true
-    | else-own-from w ↦ w.labels-is ∙ left _ _ _ _ _ _ loop.invariant.5 (omega arith) w.if-own-from.false
-    ]) loop.invariant.5,
+      one_more _ _ _ _ _ _ _ _ (omega arith) (omega arith) (elim c.if-own-from.branch [
+        | then-own-from w ↦ w.labels-is ∙ taken _ _ _ _ _ _ loop.invariant.5 (omega arith) w.if-own-from.true
+        | else-own-from w ↦ w.labels-is ∙ left _ _ _ _ _ _ loop.invariant.5 (omega arith) w.if-own-from.false
+      ]) loop.invariant.5,
     )
 
 pub returns : goal.returns

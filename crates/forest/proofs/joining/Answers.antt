@@ -21,7 +21,6 @@ Then1 = lts.Then1 tie.the-claims reads.Pre reads.Post goal.the-invariant-loop-u 
 -- what holds of a row and not of row 0, or of row t and not of one up to t
 above : (P : ℕ → Type 0) (u : ℕ) → (P 0 → ⊥) → P u → 1 ≤ u
 above P zero h p = absurd (h p)
-
 above P (suc u) h p = omega arith
 
 below : (P : ℕ → Type 0) (u t : ℕ) → u ≤ t → P t → (P u → ⊥) → u < t

@@ -37,16 +37,15 @@ returns-in-Clash c =
     clash-after _ c.loop-q.invariant.3 (rw c.in-Clash.is at c.pass_pair.ensures)
 
 pub loop-q-preserved : goal.loop-q-preserved
-loop-q-preserved c =
-    (
-      omega arith,
-      omega arith,
-      omega arith,
-      (elim c.match-pass_pair.branch
-    [ in-New w ↦ rw w.fresh-is (more-new _ c.loop-q.invariant.3 (rw w.in-New.is at c.pass_pair.ensures))
+loop-q-preserved c = (
+  omega arith,
+  omega arith,
+  omega arith,
+  (elim c.match-pass_pair.branch [
+    | in-New w ↦ rw w.fresh-is (more-new _ c.loop-q.invariant.3 (rw w.in-New.is at c.pass_pair.ensures))
     | in-Still w ↦ rw w.fresh-is (more-still _ one-paired c.loop-q.invariant.3 (rw w.in-Still.is at c.pass_pair.ensures))
-    ]),
-    )
+  ]),
+)
 
 pub returns : goal.returns
 returns c =

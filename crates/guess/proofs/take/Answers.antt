@@ -12,9 +12,7 @@ use Rattle.guess.proofs.take.Goals as goal
 -- a place that is written holds what was written, or isn't there
 written : (v : List ℕ) (i x : ℕ) → get_or (set v i x) i 0 ≤ x
 written [] i x = omega arith
-
 written (y ∷ v) zero x = omega arith
-
 written (y ∷ v) (suc i) x = written v i x
 
 more : (v : List ℕ) (i x : ℕ) → x < 2 ^ 44 → ((k : ℕ) → k < i → get_or v k 0 < 2 ^ 44) → (k : ℕ) → k < i + 1 → get_or (set v i x) k 0 < 2 ^ 44

@@ -12,13 +12,12 @@ pub loop-i-init : goal.loop-i-init
 loop-i-init c = (omega arith, refl, (λ k h. absurd (omega arith)), kept-all _ _)
 
 pub loop-i-preserved : goal.loop-i-preserved
-loop-i-preserved c =
-    (
-      omega arith,
-      simp length-set (omega arith),
-      filled c.loop-i.best c.loop-i.i (omega arith) c.loop-i.invariant.2,
-      kept_set _ 0 c.loop-i.i _ _ (omega arith) (omega arith) (omega arith) (omega arith) c.loop-i.invariant.3,
-    )
+loop-i-preserved c = (
+  omega arith,
+  simp length-set (omega arith),
+  filled c.loop-i.best c.loop-i.i (omega arith) c.loop-i.invariant.2,
+  kept_set _ 0 c.loop-i.i _ _ (omega arith) (omega arith) (omega arith) (omega arith) c.loop-i.invariant.3,
+)
 
 pub shape_of-best : goal.shape_of-best
 shape_of-best c = simp length-set (omega arith)

@@ -27,15 +27,14 @@ returns-then-via-total c =
     }
 
 pub loop-e-preserved : goal.loop-e-preserved
-loop-e-preserved c =
-    (
-      omega arith,
-      below_more _ _ c.loop-e.invariant.1
-          (elim c.if-wide-i.branch
-    [ then-wide-i+else-via-total w ↦ (λ g. w.if-via-total.false (omega (arith, w.via.ensures, g.sums)))
-    | else-wide-i w ↦ (λ g. w.if-wide-i.false (omega (arith, c.wide.ensures, g.starts)))
-    ]),
-    )
+loop-e-preserved c = (
+  omega arith,
+  below_more _ _ c.loop-e.invariant.1
+      (elim c.if-wide-i.branch [
+        | then-wide-i+else-via-total w ↦ (λ g. w.if-via-total.false (omega (arith, w.via.ensures, g.sums)))
+        | else-wide-i w ↦ (λ g. w.if-wide-i.false (omega (arith, c.wide.ensures, g.starts)))
+      ]),
+)
 
 pub returns : goal.returns
 returns c =

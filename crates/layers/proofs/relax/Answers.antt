@@ -42,16 +42,16 @@ loop-e-preserved c =
     let e< = c.loop-e-test.true in
     let R = c.loop-e.invariant.3 in
     let total = c.via-total.ensures in
-    elim c.if-total-best.branch
-    [ then-total-best w ↦ rw (w.best-is, w.changed-is) (
-      refl,
-      omega arith,
-      simp length-set (omega arith),
-      better _ _ S (omega arith) _ _ _ _ _ e< R _ total _ (omega arith) (omega (arith, S.from< c.loop-e.e e<)) w.if-total-best.true,
-      kept_set _ (c.args.h + 1) _ _ _ (omega arith) (omega arith) (S.from< c.loop-e.e e<) (omega arith) c.loop-e.invariant.4,
-    )
-    | else-total-best w ↦ rw (w.best-is, w.changed-is)
-    (refl, omega arith, omega arith, not-better _ _ S (omega arith) _ _ _ _ _ e< R _ total _ (omega arith) w.if-total-best.false, c.loop-e.invariant.4)
+    elim c.if-total-best.branch [
+      | then-total-best w ↦ rw (w.best-is, w.changed-is) (
+        refl,
+        omega arith,
+        simp length-set (omega arith),
+        better _ _ S (omega arith) _ _ _ _ _ e< R _ total _ (omega arith) (omega (arith, S.from< c.loop-e.e e<)) w.if-total-best.true,
+        kept_set _ (c.args.h + 1) _ _ _ (omega arith) (omega arith) (S.from< c.loop-e.e e<) (omega arith) c.loop-e.invariant.4,
+      )
+      | else-total-best w ↦ rw (w.best-is, w.changed-is)
+          (refl, omega arith, omega arith, not-better _ _ S (omega arith) _ _ _ _ _ e< R _ total _ (omega arith) w.if-total-best.false, c.loop-e.invariant.4)
     ]
 
 pub returns : goal.returns

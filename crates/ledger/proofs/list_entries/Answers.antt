@@ -26,27 +26,27 @@ loop-e-preserved c =
     let inv = c.loop-e.invariant in
     let wf = c.requires.sized.1 in
     let e< : c.loop-e.e + 1 ≤ c.count_entries-l.result = omega arith in
-    elim c.if-set-e.branch
-    [ then-set-e w ↦ (
-      e<,
-      inv.1,
-      rw w.froms-is (omega arith),
-      rw w.tos-is (omega arith),
-      rw w.codes-is (omega arith),
-      rw w.names-is (omega arith),
-      rw (w.froms-is, w.tos-is, w.codes-is, w.names-is, w.m-is)
-          (entry_more inv.6 (omega arith, omega arith, omega arith) (omega arith) wf (omega arith) w.if-set-e.true w.entry_at.ensures
-          w.list_entry-m.ensures),
-    )
-    | else-set-e w ↦ (
-      e<,
-      inv.1,
-      rw w.froms-is inv.2,
-      rw w.tos-is inv.3,
-      rw w.codes-is inv.4,
-      rw w.names-is inv.5,
-      rw (w.froms-is, w.tos-is, w.codes-is, w.names-is, w.m-is) (entry-skipped w.if-set-e.false inv.6),
-    )
+    elim c.if-set-e.branch [
+      | then-set-e w ↦ (
+        e<,
+        inv.1,
+        rw w.froms-is (omega arith),
+        rw w.tos-is (omega arith),
+        rw w.codes-is (omega arith),
+        rw w.names-is (omega arith),
+        rw (w.froms-is, w.tos-is, w.codes-is, w.names-is, w.m-is)
+            (entry_more inv.6 (omega arith, omega arith, omega arith) (omega arith) wf (omega arith) w.if-set-e.true w.entry_at.ensures
+            w.list_entry-m.ensures),
+      )
+      | else-set-e w ↦ (
+        e<,
+        inv.1,
+        rw w.froms-is inv.2,
+        rw w.tos-is inv.3,
+        rw w.codes-is inv.4,
+        rw w.names-is inv.5,
+        rw (w.froms-is, w.tos-is, w.codes-is, w.names-is, w.m-is) (entry-skipped w.if-set-e.false inv.6),
+      )
     ]
 
 pub returns : goal.returns

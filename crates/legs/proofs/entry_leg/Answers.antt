@@ -13,8 +13,8 @@ returns-in-Unequal c = rw (c.if-not-listed.false, c.in-Unequal.is)
 pub returns : goal.returns
 returns c =
     rw c.if-not-listed.false
-    (elim c.match-relation.branch
-    [ in-Equal w ↦ rw w.in-Equal.is (c.word.ensures ∙ rw (w.way'-is, c.gap_of.ensures.0))
-    | in-AtMost w ↦ rw w.in-AtMost.is (c.word.ensures ∙ rw (w.way'-is, c.gap_of.ensures.0))
-    | in-Less w ↦ rw w.in-Less.is (c.word.ensures ∙ rw (w.way'-is, c.gap_of.ensures.0))
+    (elim c.match-relation.branch [
+      | in-Equal w ↦ rw w.in-Equal.is (c.word.ensures ∙ rw (w.way'-is, c.gap_of.ensures.0))
+      | in-AtMost w ↦ rw w.in-AtMost.is (c.word.ensures ∙ rw (w.way'-is, c.gap_of.ensures.0))
+      | in-Less w ↦ rw w.in-Less.is (c.word.ensures ∙ rw (w.way'-is, c.gap_of.ensures.0))
     ])

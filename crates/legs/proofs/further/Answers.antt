@@ -16,9 +16,9 @@ pub returns-then-back-eq1 : goal.returns-then-back-eq1
 returns-then-back-eq1 c =
     not_back c.if-back-eq1.true
     (λ p q.
-    elim c.else-way-eq-EITHER.branch
-    [ else-way-eq-EITHER-via-then-way-eq-EITHER+else-to-stand w ↦ w.if-to-stand.false (w.to.ensures ∙ q)
-    | else-way-eq-EITHER-via-else-way-eq-EITHER w ↦ w.if-way-eq-EITHER.false (c.way.ensures ∙ p)
+    elim c.else-way-eq-EITHER.branch [
+      | else-way-eq-EITHER-via-then-way-eq-EITHER+else-to-stand w ↦ w.if-to-stand.false (w.to.ensures ∙ q)
+      | else-way-eq-EITHER-via-else-way-eq-EITHER w ↦ w.if-way-eq-EITHER.false (c.way.ensures ∙ p)
     ])
 
 pub returns-then-from-stand : goal.returns-then-from-stand
@@ -31,7 +31,7 @@ pub returns : goal.returns
 returns c =
     not-forth (omega arith)
     (λ p q.
-    elim c.else-way-ne0.branch
-    [ else-way-ne0-via-then-way-ne0+else-from-stand w ↦ w.if-from-stand.false (w.from-then-way-ne0.ensures ∙ q)
-    | else-way-ne0-via-else-way-ne0 w ↦ omega arith
+    elim c.else-way-ne0.branch [
+      | else-way-ne0-via-then-way-ne0+else-from-stand w ↦ w.if-from-stand.false (w.from-then-way-ne0.ensures ∙ q)
+      | else-way-ne0-via-else-way-ne0 w ↦ omega arith
     ])

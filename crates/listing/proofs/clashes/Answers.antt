@@ -24,15 +24,15 @@ loop-x-init c = (omega arith, omega arith, refl, listed-none _ _, record { befor
 pub loop-x-preserved : goal.loop-x-preserved
 loop-x-preserved c =
     let loop = c.loop-x in
-    elim c.if-marks-x.branch
-    [ then-marks-x w ↦ rw (w.room-is, w.k-is) (
-      omega arith,
-      omega arith,
-      simp length-set (omega arith),
-      rw (drop-set-add 8 loop.room loop.k loop.x) (listed_in _ (drop 8 loop.room) loop.x loop.k w.if-marks-x.true (simp length-drop (omega arith)) loop.invariant.3),
-      kept_more loop.x loop.invariant.4,
-    )
-    | else-marks-x w ↦ rw (w.room-is, w.k-is) (omega arith, omega arith, loop.invariant.2, listed-out _ (drop 8 loop.room) loop.x loop.k w.if-marks-x.false loop.invariant.3, loop.invariant.4)
+    elim c.if-marks-x.branch [
+      | then-marks-x w ↦ rw (w.room-is, w.k-is) (
+        omega arith,
+        omega arith,
+        simp length-set (omega arith),
+        rw (drop-set-add 8 loop.room loop.k loop.x) (listed_in _ (drop 8 loop.room) loop.x loop.k w.if-marks-x.true (simp length-drop (omega arith)) loop.invariant.3),
+        kept_more loop.x loop.invariant.4,
+      )
+      | else-marks-x w ↦ rw (w.room-is, w.k-is) (omega arith, omega arith, loop.invariant.2, listed-out _ (drop 8 loop.room) loop.x loop.k w.if-marks-x.false loop.invariant.3, loop.invariant.4)
     ]
 
 pub returns : goal.returns

@@ -6,7 +6,7 @@ use Rattle.lowering.proofs.sweep.Goals as goal
 use Rattle.lowering.proofs.sweep.Goals.{then-up, else-up}
 
 pub follow-fell-requires : goal.follow-fell-requires
-follow-fell-requires c = elim c.if-up.branch
-    [ then-up w ↦ omega arith
-    | else-up w ↦ omega arith
-    ]
+follow-fell-requires c = elim c.if-up.branch [
+  | then-up w ↦ omega arith
+  | else-up w ↦ omega arith
+]

@@ -34,11 +34,11 @@ loop-e-preserved c =
       omega arith,
       c.loop-e.invariant.1,
       entries-more c.loop-e.invariant.2
-          (elim c.if-set-e.branch
-    [ then-set-e+else-not-entry_true w ↦ (λ m. (entry-told (sheet_of args.sheet.now) args.d c.loop-e.e args.v.now
-          c.requires.t_value.0 w.entry_at.ensures w.entry_true.ensures).yes w.if-not-entry_true.false)
-    | else-set-e w ↦ (λ m. absurd (true≢false (sym m ∙ w.if-set-e.false)))
-    ]),
+          (elim c.if-set-e.branch [
+            | then-set-e+else-not-entry_true w ↦ (λ m. (entry-told (sheet_of args.sheet.now) args.d c.loop-e.e args.v.now
+                c.requires.t_value.0 w.entry_at.ensures w.entry_true.ensures).yes w.if-not-entry_true.false)
+            | else-set-e w ↦ (λ m. absurd (true≢false (sym m ∙ w.if-set-e.false)))
+          ]),
     )
 
 pub returns : goal.returns

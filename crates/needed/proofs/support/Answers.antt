@@ -18,7 +18,6 @@ After-how = lts.After-how tie.the-claims reads.Pre reads.Post tie.handed_clauses
 
 one_more : (k : ℕ) → (k ≡ 0 → ⊥) → k ≡ suc (k - 1)
 one_more zero n = absurd (n refl)
-
 one_more (suc k) n = omega arith
 
 -- what is read off the tie's number
@@ -61,13 +60,13 @@ both-requires c =
     let W = G.walks _ next in record {
       sound = asked-walks (left_is c.before.before.before.before.before) (right_is c.before.before.before.before.before) pre.sized.2 G next;
       n_le_stride = (
-          small c.before.before.before.before.before,
-          omega (arith, left_is c.before.before.before.before.before, G.left<, pre.sized.2),
-          omega (arith, right_is c.before.before.before.before.before, G.right<, pre.sized.2),
-          pre.best_len.0,
-          omega (arith, pre.sized.1.terms, pre.ties_len),
-          W.all-names,
-        );
+        small c.before.before.before.before.before,
+        omega (arith, left_is c.before.before.before.before.before, G.left<, pre.sized.2),
+        omega (arith, right_is c.before.before.before.before.before, G.right<, pre.sized.2),
+        pre.best_len.0,
+        omega (arith, pre.sized.1.terms, pre.ties_len),
+        W.all-names,
+      );
       by_index = λ e e< t. omega (arith, W.earlier e e< t, pre.ties_len.3);
     }
 

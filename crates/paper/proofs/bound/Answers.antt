@@ -12,7 +12,7 @@ bounds-ranks-number c = c.requires.1.earlier (omega arith)
 
 pub returns : goal.returns
 returns c =
-    elim c.if-name-ge-TIE.branch
-    [ then-name-ge-TIE w ↦ rw w.room-is (two_bytes _ _ _ _ _ _ refl refl (omega arith) (tie-bytes _ _ (omega arith) c.requires.1.known))
-    | else-name-ge-TIE w ↦ rw w.room-is (two_bytes _ _ _ _ _ _ refl refl (omega arith) (other-bytes _ _ (omega arith)))
+    elim c.if-name-ge-TIE.branch [
+      | then-name-ge-TIE w ↦ rw w.room-is (two_bytes _ _ _ _ _ _ refl refl (omega arith) (tie-bytes _ _ (omega arith) c.requires.1.known))
+      | else-name-ge-TIE w ↦ rw w.room-is (two_bytes _ _ _ _ _ _ refl refl (omega arith) (other-bytes _ _ (omega arith)))
     ]

@@ -32,5 +32,5 @@ pub returns : goal.returns
 returns c =
     let args = c.args in
     let both = by-walks-written args.a args.b (signed_of 8 args.c) args.ranks.now args.names.now args.walks.now args.at c.requires.1 c.requires.2 c.step-there.ensures
-        c.walk-back.ensures c.walk.ensures in
+    c.walk-back.ensures c.walk.ensures in
     record { step = both.0; short = both.1 }

@@ -13,9 +13,9 @@ loop-x-init c = (omega arith, omega arith, omega arith, lists-none _ _ 10)
 pub loop-x-preserved : goal.loop-x-preserved
 loop-x-preserved c =
     let loop = c.loop-x in
-    elim c.if-marks-x.branch
-    [ then-marks-x w ↦ let L = lists-in w.if-marks-x.true (omega arith) loop.invariant.3 in rw (w.room-is, w.k-is) (omega arith, omega arith, L.written.size, L)
-    | else-marks-x w ↦ rw (w.room-is, w.k-is) (omega arith, omega arith, loop.invariant.2, lists-out w.if-marks-x.false loop.invariant.3)
+    elim c.if-marks-x.branch [
+      | then-marks-x w ↦ let L = lists-in w.if-marks-x.true (omega arith) loop.invariant.3 in rw (w.room-is, w.k-is) (omega arith, omega arith, L.written.size, L)
+      | else-marks-x w ↦ rw (w.room-is, w.k-is) (omega arith, omega arith, loop.invariant.2, lists-out w.if-marks-x.false loop.invariant.3)
     ]
 
 pub returns : goal.returns

@@ -20,9 +20,9 @@ loop-t-preserved c =
     let loop = c.loop-t in
     let need = c.args.need.now in
     let k : (c.if-need-t.k ≤ loop.t + 1) × (c.if-need-t.k ≡ rank (marked need) (loop.t + 1)) =
-    elim c.if-need-t.branch
-    [ then-need-t w ↦ rw w.k-is (omega arith, rank-more _ _ w.if-need-t.true loop.invariant.3)
-    | else-need-t w ↦ rw w.k-is (omega arith, rank_same _ _ w.if-need-t.false loop.invariant.3)
+    elim c.if-need-t.branch [
+      | then-need-t w ↦ rw w.k-is (omega arith, rank-more _ _ w.if-need-t.true loop.invariant.3)
+      | else-need-t w ↦ rw w.k-is (omega arith, rank_same _ _ w.if-need-t.false loop.invariant.3)
     ] in (
       k.0,
       omega arith,

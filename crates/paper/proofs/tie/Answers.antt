@@ -14,7 +14,7 @@ pub returns-then-how-eq0 : goal.returns-then-how-eq0
 returns-then-how-eq0 c =
     let zero : how_of c.args.tie ≡ 0 = omega (arith, c.how.ensures, c.if-how-eq0.true) in
     let both = by-functions (ranked_walk c.args.ranks.now (walk_at c.args.names.now c.args.walks.now (2 * c.args.t)))
-        (ranked_walk c.args.ranks.now (walk_at c.args.names.now c.args.walks.now (2 * c.args.t + 1))) zero c.left-a.ensures c.right-b.ensures c.step.ensures in
+    (ranked_walk c.args.ranks.now (walk_at c.args.names.now c.args.walks.now (2 * c.args.t + 1))) zero c.left-a.ensures c.right-b.ensures c.step.ensures in
     record { step = both.0; short = both.1 }
 
 pub by_walks-requires : goal.by_walks-requires

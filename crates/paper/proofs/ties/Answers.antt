@@ -28,19 +28,19 @@ pub loop-t-preserved : goal.loop-t-preserved
 loop-t-preserved c =
     let loop = c.loop-t in
     let keep = marked c.args.need.now in
-    elim c.if-need-t.branch
-    [ then-need-t w ↦ rw (w.room-is, w.at-is) (
-      omega arith,
-      omega (arith, w.tie-at.ensures.short, rank-more keep loop.t {k = rank keep loop.t} w.if-need-t.true refl),
-      tie-kept keep _ loop.t w.if-need-t.true loop.invariant.2
-          (tie-renamed keep _ _ c.args.ties.now _ loop.t c.args.count c.loop-t-test.true c.requires.ranked
-          (c.requires.by_index loop.t c.loop-t-test.true w.if-need-t.true) w.tie-at.ensures.step),
-    )
-    | else-need-t w ↦ rw (w.room-is, w.at-is) (
-      omega arith,
-      omega (arith, rank_same keep loop.t {k = rank keep loop.t} w.if-need-t.false refl),
-      tie-left keep _ loop.t w.if-need-t.false loop.invariant.2,
-    )
+    elim c.if-need-t.branch [
+      | then-need-t w ↦ rw (w.room-is, w.at-is) (
+        omega arith,
+        omega (arith, w.tie-at.ensures.short, rank-more keep loop.t {k = rank keep loop.t} w.if-need-t.true refl),
+        tie-kept keep _ loop.t w.if-need-t.true loop.invariant.2
+            (tie-renamed keep _ _ c.args.ties.now _ loop.t c.args.count c.loop-t-test.true c.requires.ranked
+            (c.requires.by_index loop.t c.loop-t-test.true w.if-need-t.true) w.tie-at.ensures.step),
+      )
+      | else-need-t w ↦ rw (w.room-is, w.at-is) (
+        omega arith,
+        omega (arith, rank_same keep loop.t {k = rank keep loop.t} w.if-need-t.false refl),
+        tie-left keep _ loop.t w.if-need-t.false loop.invariant.2,
+      )
     ]
 
 pub returns : goal.returns

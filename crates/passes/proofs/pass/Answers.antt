@@ -34,9 +34,9 @@ loop-i-preserved c =
       omega arith,
       omega arith,
       ascending-more K.put c.loop-i.invariant.4,
-      (elim c.match-pass_term.branch
-      [ in-New w ↦ rw w.fresh-is (more-new _ c.loop-i.invariant.5 (rw w.in-New.is at c.pass_term.ensures.passing))
-      | in-Still w ↦ rw w.fresh-is (more-still _ (one-term K) c.loop-i.invariant.5 (rw w.in-Still.is at c.pass_term.ensures.passing))
+      (elim c.match-pass_term.branch [
+        | in-New w ↦ rw w.fresh-is (more-new _ c.loop-i.invariant.5 (rw w.in-New.is at c.pass_term.ensures.passing))
+        | in-Still w ↦ rw w.fresh-is (more-still _ (one-term K) c.loop-i.invariant.5 (rw w.in-Still.is at c.pass_term.ensures.passing))
       ]),
     )
 

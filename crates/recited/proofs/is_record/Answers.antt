@@ -13,9 +13,9 @@ returns-then-record-lt-HEAD c = refuted (λ R. omega (arith, R.long))
 pub returns-then-read-record : goal.returns-then-read-record
 returns-then-read-record c =
     refuted
-    λ R. (elim c.then-read-record.branch
-    [ then-read-record-via-then-read-record w ↦ omega (arith, R.stated, c.read.ensures.0)
-    | then-read-record-via-else-read-record+then-record-ne1 w ↦ w.if-record-ne1.true R.one
+    λ R. (elim c.then-read-record.branch [
+      | then-read-record-via-then-read-record w ↦ omega (arith, R.stated, c.read.ensures.0)
+      | then-read-record-via-else-read-record+then-record-ne1 w ↦ w.if-record-ne1.true R.one
     ])
 
 pub returns-then-record-first : goal.returns-then-record-first

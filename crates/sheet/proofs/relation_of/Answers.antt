@@ -10,13 +10,9 @@ use Rattle.sheet.proofs.relation_of.Goals as goal
 relation-other : (k : ℕ) → (k ≡ 1 → ⊥) → (k ≡ 2 → ⊥) → (k ≡ 3 → ⊥) → relation_of k ≡ equal
 unfolding relation_of
 relation-other zero p q r = refl
-
 relation-other (suc zero) p q r = absurd (p refl)
-
 relation-other (suc (suc zero)) p q r = absurd (q refl)
-
 relation-other (suc (suc (suc zero))) p q r = absurd (r refl)
-
 relation-other (suc (suc (suc (suc k)))) p q r = refl
 
 pub returns-in-1 : goal.returns-in-1

@@ -14,9 +14,9 @@ loop-x-init c = (omega arith, rw c.requires (none_yet _ _))
 pub returns-then-e-least : goal.returns-then-e-least
 unfolding RisesSays
 returns-then-e-least c =
-    λ R. (elim c.then-e-least.branch
-    [ then-e-least-via-then-e-least t ↦ falls c.loop-x.invariant.1 c.loop-x-test.true t.if-e-least.true R
-    | then-e-least-via-else-e-least+then-entries-e t ↦ let l = R.below _ c.loop-x-test.true in omega (arith, leb-true)
+    λ R. (elim c.then-e-least.branch [
+      | then-e-least-via-then-e-least t ↦ falls c.loop-x.invariant.1 c.loop-x-test.true t.if-e-least.true R
+      | then-e-least-via-else-e-least+then-entries-e t ↦ let l = R.below _ c.loop-x-test.true in omega (arith, leb-true)
     ])
 
 pub overflow_cast-listed : goal.overflow_cast-listed

@@ -52,16 +52,16 @@ pub loop-i-preserved : goal.loop-i-preserved
 loop-i-preserved c =
     let come = c.loop-i.invariant.0 in
     let marked = c.loop-i.invariant.1 in
-    elim c.if-kind.branch
-    [ then-kind+else-used-kind w ↦
-        let byte = c.type_inv.sheet (term_place c.loop-i.i + 1) in
-        let uses = term-uses c.args.sheet.now c.loop-i.i (omega (arith, come.counted)) w.if-kind.true in (
-          one_more come (tested marked _ _ (omega (arith, byte)) uses) (omega arith) w.if-used-kind.false,
-          rw w.marks-is (marked-use marked _ _ (omega (arith, byte)) uses w.if-used-kind.false),
-        )
-    | else-kind w ↦
-        let none = term-uses-none c.args.sheet.now c.loop-i.i (omega (arith, come.counted)) w.if-kind.false in
-        (one_more come (passed_over _ _ none) (omega arith) refl, rw w.marks-is (marked_other marked none))
+    elim c.if-kind.branch [
+      | then-kind+else-used-kind w ↦
+          let byte = c.type_inv.sheet (term_place c.loop-i.i + 1) in
+          let uses = term-uses c.args.sheet.now c.loop-i.i (omega (arith, come.counted)) w.if-kind.true in (
+            one_more come (tested marked _ _ (omega (arith, byte)) uses) (omega arith) w.if-used-kind.false,
+            rw w.marks-is (marked-use marked _ _ (omega (arith, byte)) uses w.if-used-kind.false),
+          )
+      | else-kind w ↦
+          let none = term-uses-none c.args.sheet.now c.loop-i.i (omega (arith, come.counted)) w.if-kind.false in
+          (one_more come (passed_over _ _ none) (omega arith) refl, rw w.marks-is (marked_other marked none))
     ]
 
 pub returns : goal.returns

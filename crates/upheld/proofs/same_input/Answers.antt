@@ -33,18 +33,18 @@ returns-in_default-g c =
 pub returns-then-tied_at : goal.returns-then-tied_at
 returns-then-tied_at c =
     rw (c.in-Apply2.is, c.in-Apply2-g.is)
-    (elim c.if-x-y-2.branch
-    [ then-x-y-2 w ↦ two-told w.if-x-y-2.true (subst (TiedAtSays _ _ _ _) (sym w.value-is ∙ c.if-tied_at.true) w.tied_at-then-x-y-2.ensures) c.tied_at-then-tied_at.ensures
-    | else-x-y-2 w ↦ absurd (w.if-x-y-2.false (eqb-true _ _ (sym w.value-is ∙ c.if-tied_at.true)))
+    (elim c.if-x-y-2.branch [
+      | then-x-y-2 w ↦ two-told w.if-x-y-2.true (subst (TiedAtSays _ _ _ _) (sym w.value-is ∙ c.if-tied_at.true) w.tied_at-then-x-y-2.ensures) c.tied_at-then-tied_at.ensures
+      | else-x-y-2 w ↦ absurd (w.if-x-y-2.false (eqb-true _ _ (sym w.value-is ∙ c.if-tied_at.true)))
     ])
 
 pub returns-else-tied_at : goal.returns-else-tied_at
 returns-else-tied_at c =
     subst (TellsInput _ _ _) (sym c.if-tied_at.false)
     (rw (c.in-Apply2.is, c.in-Apply2-g.is)
-    (elim c.if-x-y-2.branch
-    [ then-x-y-2 w ↦ two-first (subst (TiedAtSays _ _ _ _) (sym w.value-is ∙ c.if-tied_at.false) w.tied_at-then-x-y-2.ensures)
-    | else-x-y-2 w ↦ two-symbol w.if-x-y-2.false
+    (elim c.if-x-y-2.branch [
+      | then-x-y-2 w ↦ two-first (subst (TiedAtSays _ _ _ _) (sym w.value-is ∙ c.if-tied_at.false) w.tied_at-then-x-y-2.ensures)
+      | else-x-y-2 w ↦ two-symbol w.if-x-y-2.false
     ]))
 
 pub returns-in_default-g-2 : goal.returns-in_default-g-2

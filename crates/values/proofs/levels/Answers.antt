@@ -41,14 +41,13 @@ pub overflow_add-v : goal.overflow_add-v
 overflow_add-v c = omega (arith, product _ _ (omega arith) c.total.ensures.1)
 
 pub loop-i-preserved : goal.loop-i-preserved
-loop-i-preserved c =
-    (
-      omega arith,
-      simp length-set (omega arith),
-      more _ c.loop-i.v c.loop-i.i _ (omega arith)
-          (level-is (cell c.args.d.now) _ _ _ _ _ (omega arith) c.total.ensures.0 c.lowest.ensures.0)
-          c.loop-i.invariant.2,
-    )
+loop-i-preserved c = (
+  omega arith,
+  simp length-set (omega arith),
+  more _ c.loop-i.v c.loop-i.i _ (omega arith)
+      (level-is (cell c.args.d.now) _ _ _ _ _ (omega arith) c.total.ensures.0 c.lowest.ensures.0)
+      c.loop-i.invariant.2,
+)
 
 pub returns : goal.returns
 returns c =

@@ -21,7 +21,7 @@ pub returns-then-not-put_terms : goal.returns-then-not-put_terms
 returns-then-not-put_terms c =
     let wf = c.requires.sized.1 in
     let both = refused (sheet_of c.args.sheet.now) (marked c.args.set.now) wf c.count_terms.ensures.0 c.start.ensures (with-terms _ _ wf c.put_terms.ensures)
-        (not-true _ c.if-not-put_terms.true-raw) in
+    (not-true _ c.if-not-put_terms.true-raw) in
     record { judged = both.0; kept = both.1 }
 
 pub finish-requires : goal.finish-requires
