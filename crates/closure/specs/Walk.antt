@@ -1,7 +1,7 @@
 -- Walks over bounds between points. Gaps are of the kind itself here, so that totals have no limit.
 -- Assumes nothing.
 use Rattle.std.specs.Prelude.{ℕ, ◌≤◌, List, [], ◌∷◌}
-use Rattle.whole.specs.Whole.{plus, minus, ◌≤ℤ◌, ◌<ℤ◌}
+use Rattle.whole.specs.Whole.{plus, minus, ◌≼◌, ◌≺◌}
 use Rattle.kind.specs.Kind.{Kind, no_gap, weak, strict, zero_gap, added}
 
 -- k is at least as tight as l
@@ -10,11 +10,11 @@ Tight no_gap no_gap = Unit {0}
 Tight no_gap (weak d) = ⊥
 Tight no_gap (strict d) = ⊥
 Tight (weak c) no_gap = Unit {0}
-Tight (weak c) (weak d) = c ≤ℤ d
-Tight (weak c) (strict d) = c <ℤ d
+Tight (weak c) (weak d) = c ≼ d
+Tight (weak c) (strict d) = c ≺ d
 Tight (strict c) no_gap = Unit {0}
-Tight (strict c) (weak d) = c ≤ℤ d
-Tight (strict c) (strict d) = c ≤ℤ d
+Tight (strict c) (weak d) = c ≼ d
+Tight (strict c) (strict d) = c ≼ d
 
 -- the gap is there, and its number is from -w to w
 unfoldable pub Near : ℕ → Kind → Type 0

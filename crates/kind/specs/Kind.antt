@@ -1,7 +1,7 @@
 -- The gap kind, in document 01's words: a whole number with a mark for strict, or no gap at all. What code holds is a code of it (Code.antt).
 -- Assumes nothing.
 use Rattle.std.specs.Prelude.{ℕ, ◌+◌, ◌%◌, Bool, cond, ltb, leb, eqb, ℤ, pos, ◌+ℤ◌, ◌*ℤ◌}
-use Rattle.whole.specs.Whole.{plus, minus, ◌≤ℤ◌, ◌<ℤ◌}
+use Rattle.whole.specs.Whole.{plus, minus, ◌≼◌, ◌≺◌}
 use Rattle.kind.specs.Code.{none}
 use Rattle.kind.specs.Meets.{whole_of}
 
@@ -47,8 +47,8 @@ tighter_kind (strict c) (strict d) = cond (at_most c d) (strict c) (strict d)
 -- what a gap says of two levels x/D and y/D: x/D is at most y/D + c, or less than that
 abbrev pub Says : ℕ → Kind → ℤ → ℤ → Type 0
 Says D no_gap x y = Unit
-Says D (weak c) x y = x ≤ℤ y +ℤ c *ℤ pos D
-Says D (strict c) x y = x <ℤ y +ℤ c *ℤ pos D
+Says D (weak c) x y = x ≼ y +ℤ c *ℤ pos D
+Says D (strict c) x y = x ≺ y +ℤ c *ℤ pos D
 
 -- the gap of a code
 unfoldable pub kind_of : ℕ → Kind

@@ -1,7 +1,7 @@
 -- What it means to hold, after document 01's section of that name. The value of a term is n/D.
 -- Assumes nothing.
 use Rattle.std.specs.Prelude.{ℕ, ◌≤◌, ◌<◌, ◌≡◌, true, ℤ, pos, ◌+ℤ◌, ◌*ℤ◌}
-use Rattle.whole.specs.Whole.{◌≤ℤ◌, ◌<ℤ◌}
+use Rattle.whole.specs.Whole.{◌≼◌, ◌≺◌}
 use Rattle.order.specs.First.{Set, number as by_number, First}
 use Rattle.sheet.specs.Sheet.{Term, unknown, number, shift, apply, apply2, Relation, equal, unequal, at_most, less, Entry, Sheet, count_terms, count_entries, term_at, entry_at}
 
@@ -22,8 +22,8 @@ pub data SameInput (Alike : ℕ → ℕ → Type 0) : Term → Term → Type 0 w
 abbrev pub Compares : Relation → ℤ → ℤ → Type 0
 Compares equal x y = x ≡ y
 Compares unequal x y = x ≡ y → ⊥
-Compares at_most x y = x ≤ℤ y
-Compares less x y = x <ℤ y
+Compares at_most x y = x ≼ y
+Compares less x y = x ≺ y
 
 abbrev pub EntryTrue : ℕ → (ℕ → ℤ) → Entry → Type 0
 EntryTrue D n e = Compares e.relation (n e.a) (n e.b +ℤ e.c *ℤ pos D)

@@ -2,7 +2,7 @@
 -- walks, tie steps and the closing step. `listed` has the entries that may be used.
 -- Assumes nothing.
 use Rattle.std.specs.Prelude.{ℕ, suc, ◌+◌, ◌≤◌, ◌<◌, ◌^◌, ◌≡◌, true, List, [], ◌∷◌, ◌++◌, length, ℤ, pos, neg_ℤ, ◌+ℤ◌}
-use Rattle.whole.specs.Whole.{plus, minus, ◌≤ℤ◌, ◌<ℤ◌}
+use Rattle.whole.specs.Whole.{plus, minus, ◌≼◌, ◌≺◌}
 use Rattle.kind.specs.Kind.{Kind, no_gap, weak, strict, zero_gap, added}
 use Rattle.order.specs.First.{Set}
 use Rattle.sheet.specs.Sheet.{number, shift, Relation, equal, unequal, at_most, less, Sheet, count_terms, count_entries, term_at, entry_at}
@@ -96,8 +96,8 @@ pub data TieRight (s : Sheet) (listed : Set) (steps : List Step) (n : ℕ) : Ste
 -- below zero, or zero with a strict entry
 abbrev pub Under : Kind → Type 0
 Under no_gap = ⊥
-Under (weak c) = c <ℤ pos 0
-Under (strict c) = c ≤ℤ pos 0
+Under (weak c) = c ≺ pos 0
+Under (strict c) = c ≼ pos 0
 
 -- a closing step as step n: a walk from a point to itself with such a total, or a ≠ entry on terms tied at exactly its c
 pub data Closing (s : Sheet) (listed : Set) (steps : List Step) (n : ℕ) : Step → Type 0 where

@@ -6,7 +6,7 @@ use mathlib.Core.Logic.{⊎_elim}
 use lib.IntN.{ℤ, pos, ◌+ℤ◌, ◌*ℤ◌}
 use native.Mathlib.Nat.{mul-le-mul_right}
 use native.Mathlib.Omega.{arith}
-use Rattle.whole.specs.Whole.{plus, minus, ◌≤ℤ◌, ◌<ℤ◌}
+use Rattle.whole.specs.Whole.{plus, minus, ◌≼◌, ◌≺◌}
 use Rattle.whole.proofs.Parts.{moved, parts-inj}
 use Rattle.kind.specs.Code.{half}
 use Rattle.kind.specs.Meets.{Meets}
@@ -19,11 +19,11 @@ module _ {D : ℕ} {d : ℕ → ℕ → ℕ} {i j : ℕ} {x y : ℤ} where
       let l : (d i j + 1) / 2 + down ≤ half + up = omega (arith, h.bound) in
       omega (arith, flat m h.there, mul-le-mul_right D l)
 
-  pub at-most-met : (c : ℤ) → AtMost d i j (plus c) (minus c) → Meets D (d i j) x y → x ≤ℤ y +ℤ c *ℤ pos D
+  pub at-most-met : (c : ℤ) → AtMost d i j (plus c) (minus c) → Meets D (d i j) x y → x ≼ y +ℤ c *ℤ pos D
   at-most-met c h m = omega (arith, bound-met h m, moved y c D)
 
   -- a strict bound leaves room in D or in the gap itself
-  pub below-met : (c : ℤ) → 0 < D → Below d i j (plus c) (minus c) → Meets D (d i j) x y → x <ℤ y +ℤ c *ℤ pos D
+  pub below-met : (c : ℤ) → 0 < D → Below d i j (plus c) (minus c) → Meets D (d i j) x y → x ≺ y +ℤ c *ℤ pos D
   below-met c p h m =
       ⊎_elim
       (λ e.

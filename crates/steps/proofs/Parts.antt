@@ -6,7 +6,7 @@ use mathlib.Core.Bool.{Bool, true, false}
 use mathlib.Core.List.{List}
 use lib.IntN.{pos, sub_ℕ, ◌+ℤ◌, ◌*ℤ◌}
 use native.Mathlib.Omega.{arith}
-use Rattle.whole.specs.Whole.{plus, minus, ◌≤ℤ◌, ◌<ℤ◌}
+use Rattle.whole.specs.Whole.{plus, minus, ◌≼◌, ◌≺◌}
 use Rattle.whole.proofs.Parts.{scaled, sub_parts}
 use Rattle.closure.specs.Closed.{AtMost, Below, TiedAt}
 use Rattle.closure.specs.Table.{Table}
@@ -19,19 +19,19 @@ use Rattle.steps.proofs.Steps.{stepped, changed, refused, followed, at-most-tigh
 -- the bounds of a against b + c, where c is held as c + 32,768
 module _ {n a b : ℕ} (c : ℕ) {g : ℕ} {old new : List ℕ} {r : Bool} (a< : a < n) (b< : b < n) (T : Table n (cell old)) where
   pub at-most-put : Weak g c 32768 → Inserted n old new a b g r
-      → Stepped n (λ D v. v a ≤ℤ v b +ℤ sub_ℕ c 32768 *ℤ pos D) (λ d. AtMost d a b (plus (sub_ℕ c 32768)) (minus (sub_ℕ c 32768))) old new r
+      → Stepped n (λ D v. v a ≼ v b +ℤ sub_ℕ c 32768 *ℤ pos D) (λ d. AtMost d a b (plus (sub_ℕ c 32768)) (minus (sub_ℕ c 32768))) old new r
   at-most-put w I =
       changed (λ D v q. weak-met w (omega (arith, scaled c 32768 D (v b)))) (λ d h. weak-held w (omega (arith, sub_parts c 32768)) h)
       (stepped n old new a b g r a< b< w.there w.near T I)
 
   pub less-put : Strict g c 32768 → Inserted n old new a b g r
-      → Stepped n (λ D v. v a <ℤ v b +ℤ sub_ℕ c 32768 *ℤ pos D) (λ d. Below d a b (plus (sub_ℕ c 32768)) (minus (sub_ℕ c 32768))) old new r
+      → Stepped n (λ D v. v a ≺ v b +ℤ sub_ℕ c 32768 *ℤ pos D) (λ d. Below d a b (plus (sub_ℕ c 32768)) (minus (sub_ℕ c 32768))) old new r
   less-put w I =
       changed (λ D v q. strict-met w (omega (arith, scaled c 32768 D (v b)))) (λ d h. strict-held w (omega (arith, sub_parts c 32768)) h)
       (stepped n old new a b g r a< b< w.there w.near T I)
 
   pub at-least-put : Weak g 32768 c → Inserted n old new b a g r
-      → Stepped n (λ D v. v b +ℤ sub_ℕ c 32768 *ℤ pos D ≤ℤ v a) (λ d. AtMost d b a (minus (sub_ℕ c 32768)) (plus (sub_ℕ c 32768))) old new r
+      → Stepped n (λ D v. v b +ℤ sub_ℕ c 32768 *ℤ pos D ≼ v a) (λ d. AtMost d b a (minus (sub_ℕ c 32768)) (plus (sub_ℕ c 32768))) old new r
   at-least-put w I =
       changed (λ D v q. weak-met w (omega (arith, scaled c 32768 D (v b)))) (λ d h. weak-held w (omega (arith, sub_parts c 32768)) h)
       (stepped n old new b a g r b< a< w.there w.near T I)

@@ -8,7 +8,7 @@ use lib.IntN.{ℤ, pos, ◌+ℤ◌}
 use lib.Dec.{ltb}
 use native.Mathlib.Omega.{arith}
 use borrow.Author.Tests.{ltb-true, ltb-false}
-use Rattle.whole.specs.Whole.{plus, minus, ◌≤ℤ◌, ◌<ℤ◌}
+use Rattle.whole.specs.Whole.{plus, minus, ◌≼◌, ◌≺◌}
 use Rattle.whole.proofs.Parts.{add_parts, parts-inj}
 
 -- of two natural numbers, the first is at most the second or above it
@@ -23,27 +23,27 @@ order g h = go (ltb h g) refl
 pub neither-below : {g h : ℕ} → (g < h → ⊥) → (h < g → ⊥) → g ≡ h
 neither-below {g} {h} p q = ⊎_elim (λ k. ⊎_elim (λ l. omega arith) (λ l. absurd (p l)) (order h g)) (λ l. absurd (q l)) (order g h)
 
-pub ≤ℤ_refl : (x : ℤ) → x ≤ℤ x
-≤ℤ_refl x = omega arith
+pub ≼_refl : (x : ℤ) → x ≼ x
+≼_refl x = omega arith
 
-pub ≤ℤ-trans : (x y z : ℤ) → x ≤ℤ y → y ≤ℤ z → x ≤ℤ z
-≤ℤ-trans x y z p q = omega arith
+pub ≼-trans : (x y z : ℤ) → x ≼ y → y ≼ z → x ≼ z
+≼-trans x y z p q = omega arith
 
-pub ≤ℤ-antisym : (x y : ℤ) → x ≤ℤ y → y ≤ℤ x → x ≡ y
-≤ℤ-antisym x y p q = parts-inj x y (omega arith)
+pub ≼-antisym : (x y : ℤ) → x ≼ y → y ≼ x → x ≡ y
+≼-antisym x y p q = parts-inj x y (omega arith)
 
-pub ≤ℤ-total : (x y : ℤ) → (x ≤ℤ y) ⊎ (y <ℤ x)
-≤ℤ-total x y = ⊎_elim (λ p. inl p) (λ p. inr p) (order (plus x + minus y) (plus y + minus x))
+pub ≼-total : (x y : ℤ) → (x ≼ y) ⊎ (y ≺ x)
+≼-total x y = ⊎_elim (λ p. inl p) (λ p. inr p) (order (plus x + minus y) (plus y + minus x))
 
 -- both sides moved by the same
-pub ≤ℤ-move : (x y z : ℤ) → x ≤ℤ y ↔ x +ℤ z ≤ℤ y +ℤ z
-≤ℤ-move x y z = (λ p. omega (arith, add_parts x z, add_parts y z), λ p. omega (arith, add_parts x z, add_parts y z))
+pub ≼-move : (x y z : ℤ) → x ≼ y ↔ x +ℤ z ≼ y +ℤ z
+≼-move x y z = (λ p. omega (arith, add_parts x z, add_parts y z), λ p. omega (arith, add_parts x z, add_parts y z))
 
 -- y is x and a natural number more: what at most says
-pub ≤ℤ-more : (x : ℤ) (k : ℕ) → x ≤ℤ x +ℤ pos k
-≤ℤ-more x k = omega (arith, add_parts x (pos k))
+pub ≼-more : (x : ℤ) (k : ℕ) → x ≼ x +ℤ pos k
+≼-more x k = omega (arith, add_parts x (pos k))
 
-pub ≤ℤ-less : (x y : ℤ) → x ≤ℤ y → (k : ℕ) × (y ≡ x +ℤ pos k)
-≤ℤ-less x y p =
+pub ≼-less : (x y : ℤ) → x ≼ y → (k : ℕ) × (y ≡ x +ℤ pos k)
+≼-less x y p =
     let k : ℕ = plus y + minus x - (plus x + minus y) in
     (k, parts-inj y (x +ℤ pos k) (omega (arith, add_parts x (pos k))))
