@@ -1,6 +1,5 @@
 -- `batch_reason::untouched` meets its contract: each byte passed is 0xAA.
 -- Assumes nothing.
-use Prim.Native.Nat.{◌-◌}
 use mathlib.Core.Path.{refl}
 use native.Mathlib.Omega.{arith}
 use borrow.Author.Count.{below_more}

@@ -40,14 +40,16 @@ returns-else-byte_at-ne10 c =
 
 pub returns-in-Refused-term : goal.returns-in-Refused-term
 returns-in-Refused-term c =
-    found_as (end_refused _ _ _ _ _ (ap read_says c.in-Refused-term.is)
-    ∙ right-read _ _ _ _ (ap found_says c.in-At.is) c.term-in-At.ensures
+    let args = c.args in
+    found_as (end_refused args.s.now _ args.l c.in-At.kind c.in-Term.a.0 (ap read_says c.in-Refused-term.is)
+    ∙ right-read args.s.now c.term.new.m args.l c.in-Term.a.0 (ap found_says c.in-At.is) c.term-in-At.ensures
     ∙ left-read _ _ _ (ap read_says c.in-Term.is) c.relation.ensures.model ∙ left-from _ _ _ _ c.term.ensures)
     (refused-found _ c.term-in-At.ensures.held)
 
 pub returns-in-Refused-relation : goal.returns-in-Refused-relation
 returns-in-Refused-relation c =
-    found_as (right-refused _ _ _ _ (ap found_says c.in-Refused-relation.is)
+    let args = c.args in
+    found_as (right-refused args.s.now _ args.l c.in-Term.a.0 (ap found_says c.in-Refused-relation.is)
     ∙ left-read _ _ _ (ap read_says c.in-Term.is) c.relation.ensures.model ∙ left-from _ _ _ _ c.term.ensures)
     (refused-found _ c.term.ensures.held)
 

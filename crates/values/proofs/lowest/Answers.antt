@@ -11,11 +11,8 @@ use Rattle.closure.proofs.Ties.{tie-tied}
 use Rattle.levels.specs.Level.{first}
 use Rattle.cells.specs.Cells.{cell}
 use Rattle.values.proofs.Loops.{first-here, first_on, first-end}
+use Rattle.values.proofs.lowest.Invariants.{from}
 use Rattle.values.proofs.lowest.Goals as goal
-
--- the look-up from k on
-abbrev from : (ℕ → ℕ → ℕ) → ℕ → ℕ → ℕ
-from d i k = first (λ m. tie (d i m) (d m i)) (i - k) k
 
 found : (d : ℕ → ℕ → ℕ) (i k r : ℕ) → k < i → r ≡ tie_of d i k → r < none → from d i k ≡ k
 found d i k r l e h = first-here _ i k l (go (tie (d i k) (d k i)) (omega arith))

@@ -8,7 +8,7 @@ use Rattle.cells.specs.Cells.{cell}
 use Rattle.values.proofs.total.Given as goal
 
 abbrev pub invariant-loop-s : goal.invariant-loop-s
-invariant-loop-s l = (s ≤ l.n) × (l.sum ≡ sum_to s (λ s. term_of l.other (cell l.d l.i s))) × (l.sum ≤ s * none)
+invariant-loop-s l = (l.s ≤ l.n) × (l.sum ≡ sum_to l.s (λ s. term_of l.other (cell l.d l.i s))) × (l.sum ≤ l.s * none)
 
 abbrev pub decreases-loop-s : goal.decreases-loop-s
 decreases-loop-s l = l.n - l.s
