@@ -39,11 +39,11 @@ pub fn count_terms(sheet: &[u8]) -> u8
 }
 
 pub fn term(sheet: &[u8], i: TermNumber) -> Term {
-    sheet::term_of(fields(sheet, 6 + 6 * i.0 as u32))
+    Term::from(fields(sheet, 6 + 6 * i.0 as u32))
 }
 
 pub fn entry(sheet: &[u8], e: EntryNumber) -> Entry {
-    sheet::entry_of(fields(sheet, 6 + 6 * count_terms(sheet) as u32 + 6 * e.0 as u32))
+    Entry::from(fields(sheet, 6 + 6 * count_terms(sheet) as u32 + 6 * e.0 as u32))
 }
 
 fn fields(sheet: &[u8], at: u32) -> Fields

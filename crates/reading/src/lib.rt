@@ -28,7 +28,7 @@ pub fn term_at(sheet: &[u8], i: TermNumber) -> Term
     ensures { term_says result ≡ term_at (sheet_of sheet.now) i.0 }
 {
     let at = 6 + 6 * (i.0 as usize);
-    sheet::term_of(fields_at(sheet, at))
+    Term::from(fields_at(sheet, at))
 }
 
 pub fn entry_at(sheet: &[u8], e: EntryNumber) -> Entry
@@ -36,7 +36,7 @@ pub fn entry_at(sheet: &[u8], e: EntryNumber) -> Entry
     ensures { entry_says result ≡ entry_at (sheet_of sheet.now) e.0 }
 {
     let at = 6 + 6 * count_terms(sheet) + 6 * (e.0 as usize);
-    sheet::entry_of(fields_at(sheet, at))
+    Entry::from(fields_at(sheet, at))
 }
 
 // The record that begins at at.

@@ -18,13 +18,13 @@ pub const LONGEST: usize = 6 + 6 * MAX_TERMS + 6 * MAX_ENTRIES;
 pub const ROOM_NEEDED: usize = 8 + 8 * MAX_TERMS;
 
 // A term number and an entry number: one is never taken for the other.
-#[derive(Clone, Copy)]
+#[derive(Clone, Copy, PartialEq, Eq)]
 pub struct TermNumber(pub u8);
 
-#[derive(Clone, Copy)]
+#[derive(Clone, Copy, PartialEq, Eq)]
 pub struct EntryNumber(pub u8);
 
-#[derive(Clone, Copy)]
+#[derive(Clone, Copy, PartialEq, Eq)]
 pub struct Symbol(pub u8);
 
 // c, held as c + 32,768, so that no code needs a sign.
@@ -44,7 +44,7 @@ pub enum Term {
     Apply2(Symbol, TermNumber, TermNumber),
 }
 
-#[derive(Clone, Copy)]
+#[derive(Clone, Copy, PartialEq, Eq)]
 pub enum Relation {
     Equal,
     Unequal,
@@ -72,39 +72,45 @@ pub struct Fields {
 }
 
 // The term that a record's fields make.
-pub fn term_of(f: Fields) -> Term
-    ensures { term_says result ≡ decode_term f }
-{
-    let kind = f.kind;
-    match kind {
-        1 => Term::Number(biased_of(f.c)),
-        2 => Term::Shift(TermNumber(f.a), biased_of(f.c)),
-        3 => Term::Apply(Symbol(f.symbol), TermNumber(f.a)),
-        4 => Term::Apply2(Symbol(f.symbol), TermNumber(f.a), TermNumber(f.b)),
-        _ => Term::Unknown,
+impl From<Fields> for Term {
+    ghost from_gives = { λ f term. term_says term ≡ decode_term f };
+
+    fn from(f: Fields) -> Term {
+        match f.kind {
+            1 => Term::Number(biased_of(f.c)),
+            2 => Term::Shift(TermNumber(f.a), biased_of(f.c)),
+            3 => Term::Apply(Symbol(f.symbol), TermNumber(f.a)),
+            4 => Term::Apply2(Symbol(f.symbol), TermNumber(f.a), TermNumber(f.b)),
+            _ => Term::Unknown,
+        }
     }
 }
 
 // The entry that a record's fields make.
-pub fn entry_of(f: Fields) -> Entry
-    ensures { entry_says result ≡ decode_entry f }
-{
-    Entry {
-        relation: relation_of(f.kind),
-        a: TermNumber(f.a),
-        b: TermNumber(f.b),
-        c: biased_of(f.c),
+impl From<Fields> for Entry {
+    ghost from_gives = { λ f entry. entry_says entry ≡ decode_entry f };
+
+    fn from(f: Fields) -> Entry {
+        Entry {
+            relation: Relation::from(f.kind),
+            a: TermNumber(f.a),
+            b: TermNumber(f.b),
+            c: biased_of(f.c),
+        }
     }
 }
 
-fn relation_of(kind: u8) -> Relation
-    ensures { relation_says result ≡ relation_of kind }
-{
-    match kind {
-        1 => Relation::Unequal,
-        2 => Relation::AtMost,
-        3 => Relation::Less,
-        _ => Relation::Equal,
+// The relation of an entry's kind.
+impl From<u8> for Relation {
+    ghost from_gives = { λ kind relation. relation_says relation ≡ relation_of kind };
+
+    fn from(kind: u8) -> Relation {
+        match kind {
+            1 => Relation::Unequal,
+            2 => Relation::AtMost,
+            3 => Relation::Less,
+            _ => Relation::Equal,
+        }
     }
 }
 

@@ -12,4 +12,4 @@ fields_at-requires c = let b = c.args.sheet.now in omega (arith, terms-stated b,
 pub returns : goal.returns
 returns c =
     let stated = terms-stated c.args.sheet.now in
-    c.entry_of.ensures ∙ ap decode_entry (c.fields_at.ensures ∙ ap (fields_at _) (omega arith)) ∙ sym (entry-decoded _ _ c.requires.1)
+    c.from.ensures ∙ ap decode_entry (c.fields_at.ensures ∙ ap (fields_at _) (omega arith)) ∙ sym (entry-decoded _ _ c.requires.1)

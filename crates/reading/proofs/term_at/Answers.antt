@@ -10,4 +10,4 @@ pub fields_at-requires : goal.fields_at-requires
 fields_at-requires c = omega (arith, terms-stated c.args.sheet.now)
 
 pub returns : goal.returns
-returns c = c.term_of.ensures ∙ ap decode_term c.fields_at.ensures ∙ sym (term-decoded _ _ c.requires.1)
+returns c = c.from.ensures ∙ ap decode_term c.fields_at.ensures ∙ sym (term-decoded _ _ c.requires.1)

@@ -1,10 +1,10 @@
--- `sheet::relation_of` meets its contract, arm by arm.
+-- A relation made of a kind is what the kind decodes to, arm by arm.
 -- Assumes nothing.
 use Prim.Native.Nat.{ℕ, zero, suc}
 use mathlib.Core.Path.{◌≡◌, refl, sym, ap}
 use Rattle.sheet.specs.Sheet.{equal}
 use Rattle.sheet.specs.Decode.{relation_of}
-use Rattle.sheet.proofs.relation_of.Goals as goal
+use Rattle.sheet.proofs.RelationFromU8.from.Goals as goal
 
 -- the last arm: a kind that no other arm has
 relation-other : (k : ℕ) → (k ≡ 1 → ⊥) → (k ≡ 2 → ⊥) → (k ≡ 3 → ⊥) → relation_of k ≡ equal

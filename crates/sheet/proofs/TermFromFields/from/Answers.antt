@@ -1,4 +1,4 @@
--- `sheet::term_of` meets its contract, arm by arm.
+-- A term made of a record's fields is what they decode to, arm by arm.
 -- Assumes nothing.
 use Prim.Native.Nat.{ℕ, zero, suc}
 use mathlib.Core.Path.{◌≡◌, refl, sym}
@@ -6,7 +6,7 @@ use lib.ListN.{get_or}
 use Rattle.sheet.specs.declared.Fields.{Fields}
 use Rattle.sheet.specs.Sheet.{unknown}
 use Rattle.sheet.specs.Decode.{term_kinds, decode_term}
-use Rattle.sheet.proofs.term_of.Goals as goal
+use Rattle.sheet.proofs.TermFromFields.from.Goals as goal
 
 -- the last arm: a kind that no other arm has
 term-other : (f : Fields) → (f.kind ≡ 1 → ⊥) → (f.kind ≡ 2 → ⊥) → (f.kind ≡ 3 → ⊥) → (f.kind ≡ 4 → ⊥) → decode_term f ≡ unknown
