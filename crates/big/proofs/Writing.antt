@@ -19,9 +19,6 @@ pub record Written (old new : List ℕ) (at w v rest k : ℕ) : Type 0 where
   pub after : (m : ℕ) → at + w ≤ m → get_or new m 0 ≡ get_or old m 0
   pub whole : (b : List ℕ) → ((m : ℕ) → at + k ≤ m → m < at + w → get_or b m 0 ≡ get_or new m 0) → big_of b at k ≡ rest → big_of b at w ≡ v
 
-pub write-start : (old : List ℕ) (at w v : ℕ) → v < 256 ^ w → Written old old at w v v w
-write-start old at w v h = record { fits = h; before = λ m l. refl; after = λ m l. refl; whole = λ b s e. e }
-
 write_step : (old new : List ℕ) (at w v rest k : ℕ) → Written old new at w v rest (suc k) → suc k ≤ w → at + k < length new →
     Written old (set new (at + k) (rest % 256)) at w v (rest / 256) k
 write_step old new at w v rest k P h l = record {

@@ -11,10 +11,8 @@ pub fn read(b: &[u8], at: usize, width: usize) -> u64
     ensures { (result ≡ big_of b.now at width) × (result < 256 ^ width) }
 {
     let mut v: u64 = 0;
-    let mut k: usize = 0;
-    while k < width {
-        v = v * 256 + wide(b[at + k]);
-        k += 1;
+    for k in 0..width {
+        v = v * 256 + u64::from(b[at + k]);
     }
     v
 }
@@ -25,16 +23,8 @@ pub fn write(out: &mut [u8], at: usize, width: usize, v: u64)
     ensures { (big_of out.new at width ≡ v) × Kept out.old out.new at width }
 {
     let mut rest = v;
-    let mut k = width;
-    while 0 < k {
-        k -= 1;
+    for k in (0..width).rev() {
         out[at + k] = (rest % 256) as u8;
-        rest = rest / 256;
+        rest /= 256;
     }
-}
-
-fn wide(x: u8) -> u64
-    ensures { result ≡ x }
-{
-    x as u64
 }
