@@ -33,13 +33,10 @@ pub fn apart(sheet: &[u8], set: &[bool], d: &[u32]) -> bool
     requires closed { Closed (points (sheet_of sheet.now)) (reach (points (sheet_of sheet.now))) (cell d.now) }
     ensures { Checked (sheet_of sheet.now) (marked set.now) (cell d.now) result }
 {
-    let l = reading::count_entries(sheet);
-    let mut e = 0;
-    while e < l {
+    for e in 0..reading::count_entries(sheet) {
         if broken_at(sheet, set, d, EntryNumber(e as u8)) {
             return false;
         }
-        e += 1;
     }
     true
 }
@@ -56,8 +53,7 @@ pub fn broken_at(sheet: &[u8], set: &[bool], d: &[u32], e: EntryNumber) -> bool
     }
     let n = reading::count_terms(sheet) + 1;
     let entry = reading::entry_at(sheet, e);
-    let relation = entry.relation;
-    match relation {
+    match entry.relation {
         Relation::Unequal => tied_at(d, n, entry.a.0 as usize, entry.b.0 as usize, entry.c),
         _ => false,
     }

@@ -1,18 +1,14 @@
 -- `ties::apart` meets its contract: no entry before the counter is in the set and broken.
 -- Assumes nothing.
-use Prim.Native.Nat.{ℕ, ◌-◌, ◌≤◌, ◌<◌}
+use Prim.Native.Nat.{ℕ, ◌<◌}
 use mathlib.Core.Path.{◌≡◌}
 use mathlib.Core.Bool.{true, false}
 use lib.ListN.{get_or}
 use Rattle.cells.specs.Cells.{cell}
 use Rattle.sheet.specs.Decode.{sheet_of}
-use Rattle.sheet.specs.Sheet.{count_entries, entry_at}
+use Rattle.sheet.specs.Sheet.{entry_at}
 use Rattle.ties.specs.Ties.{Broken}
 use Rattle.ties.proofs.apart.Given as goal
 
 abbrev pub invariant-loop-e : goal.invariant-loop-e
-invariant-loop-e l =
-    (l.e ≤ l.l) × (l.l ≡ count_entries (sheet_of l.sheet)) × ((k : ℕ) → k < l.e → (get_or l.set k false ≡ true) × Broken (cell l.d) (entry_at (sheet_of l.sheet) k) → ⊥)
-
-abbrev pub decreases-loop-e : goal.decreases-loop-e
-decreases-loop-e l = l.l - l.e
+invariant-loop-e l = (k : ℕ) → k < l.e → (get_or l.set k false ≡ true) × Broken (cell l.d) (entry_at (sheet_of l.sheet) k) → ⊥
