@@ -1,63 +1,35 @@
 -- What putting a key in leaves: the others moved up one by one, numbers that ascend again, and all of them still there.
 -- Assumes nothing.
 use Prim.Native.Nat.{ℕ, ◌+◌, ◌-◌, ◌≤◌, ◌<◌}
-use mathlib.Core.Path.{◌≡◌, refl, ◌∙◌}
-use mathlib.Core.Logic.{◌⊎◌, ⊎_elim}
+use mathlib.Core.Path.{◌≡◌, ◌∙◌}
+use mathlib.Core.Logic.{⊎_elim}
 use mathlib.Core.List.{List}
 use lib.ListN.{length, get_or, set}
 use lib.Seq.{get_or-set_same, get_or-set_other}
 use native.Mathlib.Nat.{eq-or-lt_of_le}
 use native.Mathlib.Omega.{arith}
 use Rattle.whole.proofs.Order.{order}
-use Rattle.sorted.specs.Inserted.{Ascending, Inserted}
+use Rattle.std.specs.List.{CopiedTo, SameBelow, SameFrom}
+use Rattle.sorted.specs.Inserted.{Ascending, Inserted, FirstFrom}
 
--- where the last of some is below a number, so are all
-pub all-below : {m place key : ℕ} {keys : List ℕ} → Ascending m keys → place ≤ m → get_or keys (place - 1) 0 < key
-    → (q : ℕ) → q < place → get_or keys q 0 < key
-all-below {m} {place} {key} {keys} A l h q k =
-    ⊎_elim (λ e. rw e h) (λ g. omega (arith, A.ascend q (place - 1) g (omega arith))) (eq-or-lt_of_le {n = q} {m = place - 1} (omega arith))
+-- where one is below a number, so are all up to it
+pub all-below : {m last key : ℕ} {keys : List ℕ} → Ascending m keys → last < m → get_or keys last 0 < key → (q : ℕ) → q < last + 1 → get_or keys q 0 < key
+all-below {last} A l h q k = ⊎_elim (λ e. rw e h) (λ g. omega (arith, A.ascend q last g l)) (eq-or-lt_of_le {n = q} {m = last} (omega arith))
 
--- the keys from place on, none of them below key, stand one higher; what stands at place is free
-pub record Shifted (m : ℕ) (old new : List ℕ) (key place : ℕ) : Type 0 where
-  pub same : (q : ℕ) → q < place → get_or new q 0 ≡ get_or old q 0
-  pub moved : (q : ℕ) → place ≤ q → q < m → (get_or new (q + 1) 0 ≡ get_or old q 0) × (key ≤ get_or old q 0)
-  pub past : (q : ℕ) → m < q → get_or new q 0 ≡ get_or old q 0
-
-pub none-moved : (m : ℕ) (keys : List ℕ) (key : ℕ) → Shifted m keys keys key m
-none-moved m keys key = record { same = λ q l. refl; moved = λ q l h. absurd (omega arith); past = λ q l. refl }
-
-module _ {m : ℕ} {old new : List ℕ} {key place : ℕ} (S : Shifted m old new key place) where
-  -- one more is moved
-  pub one-moved : 0 < place → place ≤ m → m < length new → key ≤ get_or new (place - 1) 0
-      → Shifted m old (set new place (get_or new (place - 1) 0)) key (place - 1)
-  one-moved p l n h =
-      record {
-        same = λ q k. get_or-set_other new place q _ 0 (omega arith) ∙ S.same q (omega arith);
-        moved = λ q k g.
-            ⊎_elim
-            (λ e.
-            let f : q + 1 ≡ place = omega arith in
-            let o : get_or new (place - 1) 0 ≡ get_or old q 0 = rw e (S.same q (omega arith)) in
-            (rw f (get_or-set_same new place _ 0 (omega arith)) ∙ o, omega arith))
-            (λ k. (get_or-set_other new place (q + 1) _ 0 (omega arith) ∙ (S.moved q (omega arith) g).0, (S.moved q (omega arith) g).1))
-            (eq-or-lt_of_le {n = place - 1} {m = q} k);
-        past = λ q k. get_or-set_other new place q _ 0 (omega arith) ∙ S.past q k;
-      }
-
-  -- and the key goes in where all below are lower
-  pub put_in : place ≤ m → m < length new → Ascending m old → (place ≤ 0) ⊎ (get_or new (place - 1) 0 < key)
-      → Inserted m old (set new place key) key place
-  put_in l n A c =
-      record {
-        within = l;
-        here = get_or-set_same new place key 0 (omega arith);
-        lower = λ q k. (
-          get_or-set_other new place q key 0 (omega arith) ∙ S.same q k,
-          ⊎_elim (λ e. absurd (omega arith)) (λ h. all-below A l (omega (arith, S.same (place - 1) (omega arith))) q k) c,
-        );
-        higher = λ q k g. (get_or-set_other new place (q + 1) key 0 (omega arith) ∙ (S.moved q k g).0, (S.moved q k g).1);
-        past = λ q k. get_or-set_other new place q key 0 (omega arith) ∙ S.past q k;
-      }
+-- what stood from the place on is copied one place up, and the key goes in
+pub moved-up : {m key place : ℕ} {old : List ℕ} (mid : List ℕ) → FirstFrom m old key place → m < length mid →
+    CopiedTo old mid place (place + 1) (m - place) × SameBelow old mid (place + 1) × SameFrom old mid (place + 1 + (m - place)) →
+    Inserted m old (set mid place key) key place
+moved-up {m} {key} {place} mid F l (copied, low, high) = record {
+  within = F.within;
+  here = get_or-set_same mid place key 0 (omega (arith, F.within));
+  lower = λ q k. (get_or-set_other mid place q key 0 (omega arith) ∙ low q 0 (omega arith), F.below q k);
+  higher = λ q k g.
+      let e : place + (q + 1 - (place + 1)) ≡ q = omega arith in
+      let at = copied (q + 1) 0 (omega arith) (omega arith) in
+      (get_or-set_other mid place (q + 1) key 0 (omega arith) ∙ rw e at at, F.from q k g);
+  past = λ q k. get_or-set_other mid place q key 0 (omega arith) ∙ high q 0 (omega (arith, F.within));
+}
 
 pub ascending-none : (keys : List ℕ) → Ascending 0 keys
 ascending-none keys = record { ascend = λ p q l h. absurd (omega arith) }

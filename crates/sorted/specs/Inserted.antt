@@ -14,6 +14,10 @@ pub record Inserted (m : ℕ) (old new : List ℕ) (key place : ℕ) : Type 0 wh
   pub higher : (q : ℕ) → place ≤ q → q < m → (get_or new (q + 1) 0 ≡ get_or old q 0) × (key ≤ get_or old q 0)
   pub past : (q : ℕ) → m < q → get_or new q 0 ≡ get_or old q 0
 
+-- none of the keys from place up to m is below least
+abbrev pub NoneBelow : ℕ → ℕ → List ℕ → ℕ → Type 0
+NoneBelow place m keys least = (q : ℕ) → place ≤ q → q < m → least ≤ get_or keys q 0
+
 -- place is the first of m from which no key is below least
 pub record FirstFrom (m : ℕ) (keys : List ℕ) (least place : ℕ) : Type 0 where
   pub within : place ≤ m

@@ -2,19 +2,16 @@
 // It rests on the order of numbers alone, and promises where the new one stands and where each of the others does.
 #![tactic(auto)]
 
-ghost use Rattle.std.specs.Prelude.{◌≤◌, ◌<◌, length};
-ghost use Rattle.sorted.specs.Inserted.{Ascending, Inserted, FirstFrom};
+ghost use Rattle.std.specs.Prelude.{◌+◌, ◌≤◌, ◌<◌, length, get_or, MatchOption};
+ghost use Rattle.sorted.specs.Inserted.{Ascending, Inserted, FirstFrom, NoneBelow};
 
 // Puts a key in among the first m, and answers its place. The others move up from the end, so that a key above them all costs one test.
 pub fn insert(keys: &mut [u64], m: usize, key: u64) -> usize
     requires { (m < length keys.old) × Ascending m keys.old }
     ensures { Inserted m keys.old keys.new key result }
 {
-    let mut place = m;
-    while 0 < place && key <= keys[place - 1] {
-        keys[place] = keys[place - 1];
-        place -= 1;
-    }
+    let place = first_from(keys, m, key);
+    keys.copy_within(place..m, place + 1);
     keys[place] = key;
     place
 }
@@ -24,9 +21,16 @@ pub fn first_from(keys: &[u64], m: usize, least: u64) -> usize
     requires { (m ≤ length keys.now) × Ascending m keys.now }
     ensures { FirstFrom m keys.now least result }
 {
-    let mut place = m;
-    while 0 < place && least <= keys[place - 1] {
-        place -= 1;
+    match last_below(keys, m, least) {
+        Some(last) => last + 1,
+        None => 0,
     }
-    place
+}
+
+// The place of the last key below least.
+fn last_below(keys: &[u64], m: usize, least: u64) -> Option<usize>
+    requires { m ≤ length keys.now }
+    ensures { MatchOption result (NoneBelow 0 m keys.now least) (λ last. (last < m) × (get_or keys.now last 0 < least) × NoneBelow (last + 1) m keys.now least) }
+{
+    keys[..m].iter().rposition(|key| *key < least)
 }
