@@ -23,7 +23,7 @@ use Rattle.closure.proofs.Order.{Is, none-tight, both, of_code, tight-refl, tigh
 use Rattle.closure.proofs.Order.Is.{plain}
 use Rattle.cells.specs.Cells.{stride, cell}
 use Rattle.layers.specs.Bounds.{Bounds, from, to, code, Sound, Listed, Least}
-use Rattle.layers.specs.Layer.{Over, Layered, Begun, Copied, RowOver, Rows, Layers, Read}
+use Rattle.layers.specs.Layer.{Over, Layered, Copied, RowOver, Rows, Layers, Read}
 
 -- the total of a walk is a gap
 record Gap (k : Kind) : Type 0 where
@@ -167,9 +167,6 @@ module _ (n : ℕ) (B : Bounds) (S : Sound n B) where
 
     -- one row more
     module _ (d mid : List ℕ) (h : ℕ) (h< : h + 1 < n) (R : Rows B n b d h) (C : Copied n d mid h) where
-      pub asked-copied : (i : ℕ) → i < n → cell mid (h + 1) i ≡ cell mid h i
-      asked-copied i i< = C.copied i i< ∙ sym (C.before (h * stride + i) (omega arith))
-
       pub asked-addable : (e : ℕ) → e < B.count → Addable (code B e) (cell mid h (to B e))
       asked-addable e e< =
           rw (C.before (h * stride + to B e) (omega (arith, S.to< e e<))) (addable-at d h (omega arith) R h (omega arith) e e<)
@@ -206,9 +203,3 @@ module _ (n : ℕ) (B : Bounds) (S : Sound n B) where
                     mid-is (from B e) (S.from< e e<),
                   );
             }
-
-    pub none_yet : (d : List ℕ) → Begun n b d → Rows B n b d 0
-    none_yet d D = record { begun = D; next = λ g l. absurd (omega arith) }
-
-    pub all : (d : List ℕ) (h : ℕ) → h + 1 ≡ n → Rows B n b d h → Layers B n b d h
-    all d h e R = record { few = omega arith; rows = R; last = λ l. absurd (omega arith) }

@@ -1,8 +1,8 @@
--- The rows of best totals as they are made: row 0, a row copied, and each bound put in front.
+-- The rows of best totals as they are made: each bound put in front.
 -- Assumes nothing.
 use Prim.Native.Nat.{ℕ, ◌+◌, ◌*◌, ◌≤◌, ◌<◌}
-use mathlib.Core.Path.{◌≡◌, refl, sym, ◌∙◌, ap}
-use mathlib.Core.Bool.{Bool, true, false, true≢false}
+use mathlib.Core.Path.{◌≡◌, sym, ◌∙◌, ap}
+use mathlib.Core.Bool.{Bool, true, true≢false}
 use mathlib.Core.List.{List}
 use mathlib.Core.Logic.{◌⊎◌, inl, inr, ⊎_elim}
 use lib.ListN.{length, get_or, set}
@@ -10,47 +10,13 @@ use lib.Seq.{get_or-set_same, get_or-set_other}
 use native.Mathlib.Decide.{ℕ_discrete}
 use native.Mathlib.Omega.{arith}
 use borrow.Author.Count.{below_more}
-use Rattle.kind.specs.Code.{none, base, sum_of}
+use Rattle.kind.specs.Code.{sum_of}
 use Rattle.cells.specs.Cells.{stride, cell, Kept}
 use Rattle.layers.specs.Bounds.{Bounds, from, to, code, Sound}
-use Rattle.layers.specs.Layer.{Over, Begun, Copied, RowOver}
-
-pub begun : (n b : ℕ) (d : List ℕ) → b < n → n ≤ length d → ((k : ℕ) → k < n → get_or d k 0 ≡ none) → Begun n b (set d b base)
-begun n b d b< l f =
-    record {
-      same = at 0 b (omega arith) ∙ get_or-set_same d b base 0 (omega arith);
-      apart = λ i i< h. at 0 i (omega arith) ∙ get_or-set_other d b i base 0 h ∙ f i i<;
-    }
-  where
-    at : (x i : ℕ) → x ≡ 0 → get_or (set d b base) (x * stride + i) 0 ≡ get_or (set d b base) i 0
-    at x i e = ap (λ (q : ℕ). get_or (set d b base) q 0) (omega arith)
-
-pub filled : (d : List ℕ) (i : ℕ) → i < length d → ((k : ℕ) → k < i → get_or d k 0 ≡ none) → (k : ℕ) → k < i + 1 → get_or (set d i none) k 0 ≡ none
-filled d i l f = below_more _ i (λ k k<. get_or-set_other d i k none 0 (omega arith) ∙ f k k<) (get_or-set_same d i none 0 l)
-
-pub copied_none : (d : List ℕ) (h : ℕ) → Copied 0 d d h
-copied_none d h = record { copied = λ i l. absurd (omega arith); before = λ k l. refl }
-
-pub copied_more : (old d : List ℕ) (h i p v : ℕ) → i < stride → p ≡ (h + 1) * stride + i → p < length d → v ≡ get_or d (h * stride + i) 0
-    → Copied i old d h → Copied (i + 1) old (set d p v) h
-copied_more old d h i p v i< e l f C =
-    record {
-      copied = below_more (λ k. cell (set d p v) (h + 1) k ≡ cell old h k) i
-          (λ k k<. get_or-set_other d p ((h + 1) * stride + k) v 0 (omega arith) ∙ C.copied k k<)
-          (ap (λ (q : ℕ). get_or (set d p v) q 0) (sym e) ∙ get_or-set_same d p v 0 l ∙ f ∙ C.before (h * stride + i) (omega arith));
-      before = λ k k<. get_or-set_other d p k v 0 (omega arith) ∙ C.before k k<;
-    }
+use Rattle.layers.specs.Layer.{Over, RowOver}
 
 wider : {B : Bounds} {low : ℕ → ℕ} {i t : ℕ} (m : ℕ) → Over B m low i t → Over B (m + 1) low i t
 wider m o = record { number = o.number; there = omega (arith, o.there); starts = o.starts; sums = o.sums }
-
-pub over_none : (B : Bounds) (n : ℕ) (d : List ℕ) (h : ℕ) → ((i : ℕ) → i < n → cell d (h + 1) i ≡ cell d h i) → RowOver B 0 n d d h false
-over_none B n d h f =
-    record {
-      layer = record { at-most = λ i l. omega (arith, f i l); over = λ e l. absurd (omega arith); one = λ i l. inl (f i l) };
-      before = λ k l. refl;
-      still = λ e. f;
-    }
 
 module _ (B : Bounds) (n : ℕ) (S : Sound n B) (n≤ : n ≤ stride) (old d : List ℕ) (h e : ℕ) (changed : Bool) (e< : e < B.count)
     (R : RowOver B e n old d h changed) where

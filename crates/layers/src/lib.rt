@@ -50,15 +50,14 @@ fn fill(
     ensures kept { Kept n best.old best.new }
 {
     begin(best, n, b);
-    let mut h = 0;
-    while h + 1 < n {
+    let last = n - 1;
+    for h in 0..last {
         copy(best, h, n);
         if !relax(froms, tos, codes, m, n, best, h) {
             return h;
         }
-        h += 1;
     }
-    h
+    last
 }
 
 // Row 0: no gap from any point but b.
@@ -67,11 +66,7 @@ fn begin(best: &mut [u32], n: usize, b: usize)
     ensures begun { Begun n b best.new }
     ensures kept { Kept n best.old best.new }
 {
-    let mut i = 0;
-    while i < n {
-        best[i] = Gap::NONE.0;
-        i += 1;
-    }
+    best[..n].fill(Gap::NONE.0);
     best[b] = Gap::ZERO.0;
 }
 
@@ -82,11 +77,7 @@ fn copy(best: &mut [u32], h: usize, n: usize)
     ensures kept { Kept n best.old best.new }
 {
     let at = h * STRIDE;
-    let mut i = 0;
-    while i < n {
-        best[at + STRIDE + i] = best[at + i];
-        i += 1;
-    }
+    best.copy_within(at..at + n, at + STRIDE);
 }
 
 // Each bound in front of row h, where that makes row h + 1 better; whether any does.
@@ -108,15 +99,13 @@ fn relax(
 {
     let at = h * STRIDE;
     let mut changed = false;
-    let mut e = 0;
-    while e < m {
+    for e in 0..m {
         let total = via(tos, codes, best, h, e);
-        let i = at + STRIDE + wide(froms[e]);
+        let i = at + STRIDE + usize::from(froms[e]);
         if total < best[i] {
             best[i] = total;
             changed = true;
         }
-        e += 1;
     }
     changed
 }
@@ -128,15 +117,8 @@ fn via(tos: &[u8], codes: &[u32], best: &[u32], h: usize, e: usize) -> u32
     requires addable { Addable (get_or codes.now e 0) (cell best.now h (get_or tos.now e 0)) }
     ensures { result ≡ sum_of (get_or codes.now e 0) (cell best.now h (get_or tos.now e 0)) }
 {
-    let behind = best[h * STRIDE + wide(tos[e])];
+    let behind = best[h * STRIDE + usize::from(tos[e])];
     Gap(codes[e]).sum(Gap(behind)).0
-}
-
-// A point of a bound.
-pub fn wide(x: u8) -> usize
-    ensures { result ≡ x }
-{
-    x as usize
 }
 
 // Reads a walk off from layer h down, and answers its number of bounds.
@@ -159,15 +141,13 @@ fn read(
 {
     let mut i = a;
     let mut k = 0;
-    let mut h = last;
-    while h > 0 {
-        h -= 1;
+    for h in (0..last).rev() {
         let total = best[h * STRIDE + STRIDE + i];
         if total < best[h * STRIDE + i] {
             let e = find(froms, tos, codes, m, n, best, h, i, total);
             out[k] = e as u16;
             k += 1;
-            i = wide(tos[e]);
+            i = usize::from(tos[e]);
         }
     }
     k
@@ -191,14 +171,10 @@ fn find(
     requires over { Over (bounds m froms.now tos.now codes.now) m (cell best.now h) i total }
     ensures { Chosen (bounds m froms.now tos.now codes.now) (cell best.now h) i total result }
 {
-    let mut e = 0;
-    while e < m {
-        if wide(froms[e]) == i {
-            if via(tos, codes, best, h, e) == total {
-                return e;
-            }
+    for e in 0..m {
+        if usize::from(froms[e]) == i && via(tos, codes, best, h, e) == total {
+            return e;
         }
-        e += 1;
     }
-    e
+    m
 }

@@ -1,16 +1,9 @@
 -- `layers::fill` meets its contract.
 -- Assumes nothing.
-use Prim.Native.Nat.{◌-◌, ◌<◌}
-use mathlib.Core.Path.{◌≡◌}
-use lib.ListN.{length}
 use Rattle.cells.specs.Cells.{Kept}
 use Rattle.layers.specs.Bounds.{bounds}
 use Rattle.layers.specs.Layer.{Rows}
 use Rattle.layers.proofs.fill.Given as goal
 
 abbrev pub invariant-loop-h : goal.invariant-loop-h
-invariant-loop-h l =
-    (l.h < l.n) × (length l.best ≡ length l.initial.best) × Rows (bounds l.m l.froms l.tos l.codes) l.n l.b l.best l.h × Kept l.n l.initial.best l.best
-
-abbrev pub decreases-loop-h : goal.decreases-loop-h
-decreases-loop-h l = l.n - l.h
+invariant-loop-h l = Rows (bounds l.m l.froms l.tos l.codes) l.n l.b l.best l.h × Kept l.n l.initial.best l.best

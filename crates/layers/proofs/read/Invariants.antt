@@ -1,15 +1,8 @@
 -- `layers::read` meets its contract.
 -- Assumes nothing.
-use Prim.Native.Nat.{◌-◌, ◌≤◌, ◌<◌}
-use mathlib.Core.Path.{◌≡◌}
-use lib.ListN.{length}
 use Rattle.layers.specs.Bounds.{bounds}
 use Rattle.layers.proofs.Reading.{Reading}
 use Rattle.layers.proofs.read.Given as goal
 
 abbrev pub invariant-loop-h : goal.invariant-loop-h
-invariant-loop-h l =
-    (l.h ≤ l.last) × (l.last < l.n) × (length l.out ≡ length l.initial.out) × Reading (bounds l.m l.froms l.tos l.codes) l.n l.best l.a l.last l.initial.out l.out l.k l.i l.h
-
-abbrev pub decreases-loop-h : goal.decreases-loop-h
-decreases-loop-h l = l.h
+invariant-loop-h l = Reading (bounds l.m l.froms l.tos l.codes) l.n l.best l.a l.last l.initial.out l.out l.k l.i l.h
