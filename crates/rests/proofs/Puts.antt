@@ -11,8 +11,8 @@ use Rattle.walked.specs.Borne.{Exact, With}
 use Rattle.walked.specs.Borne.With.{old, new}
 use Rattle.walked.proofs.Bearing.{fresh, same-bounds, put-exact}
 use Rattle.cells.specs.Cells.{cell}
-use Rattle.cells.proofs.Keeps.{kept-all, kept_on}
-use Rattle.table.specs.Inserted.{Put, Shut, Started}
+use Rattle.cells.proofs.Keeps.{kept_on}
+use Rattle.table.specs.Inserted.{Put, Started}
 use Rattle.layers.specs.Bounds.{bounds, Sound, Listed}
 use Rattle.rests.specs.Rested.{Rested}
 
@@ -42,18 +42,6 @@ module _ (n : ℕ) (froms tos codes : List ℕ) where
             let gap_is = sym e.gap ∙ ap (λ (x : ℕ). kind_of (get_or codes x 0)) last in
             rw (from_is, to_is, gap_is) new
 
-  -- with the bounds from `start` up to k in
-  pub none_yet : (start : ℕ) (d : List ℕ) → Exact n (Listed (bounds start froms tos codes)) (cell d) → Rested n start froms tos codes start d d start
-  none_yet start d X =
-      record {
-        at_least = omega arith;
-        at-most = omega arith;
-        exact = X;
-        shut = λ l. absurd (omega arith);
-        kept = kept-all n d;
-        tighter = λ i j p q. omega arith;
-      }
-
   module _ (m start k : ℕ) (before d after : List ℕ) (k< : k < m) (S : Sound n (bounds m froms tos codes))
       (R : Rested n k froms tos codes start before d k) where
     pub one_more : Put n d after (get_or froms k 0) (get_or tos k 0) (get_or codes k 0) → Rested n (k + 1) froms tos codes start before after (k + 1)
@@ -69,16 +57,3 @@ module _ (n : ℕ) (froms tos codes : List ℕ) where
           kept = kept_on R.kept P.kept;
           tighter = λ i j p q. omega (arith, P.relaxed.at i j p q, R.tighter i j p q);
         }
-
-    -- the next one is refused
-    pub refused : Shut d after (get_or froms k 0) (get_or tos k 0) (get_or codes k 0) → Rested n m froms tos codes start before after k
-    refused Q =
-        rw Q.same
-        (record {
-          at_least = R.at_least;
-          at-most = omega arith;
-          exact = R.exact;
-          shut = λ l. Q.under;
-          kept = R.kept;
-          tighter = R.tighter;
-        })

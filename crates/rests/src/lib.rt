@@ -27,14 +27,12 @@ pub fn put(
     requires exact { Exact n (Listed (bounds from froms.now tos.now codes.now)) (cell d.old) }
     ensures { Rested n m froms.now tos.now codes.now from d.old d.new result }
 {
-    let mut k = from;
-    while k < m {
-        let a = layers::wide(froms[k]);
-        let b = layers::wide(tos[k]);
+    for k in from..m {
+        let a = usize::from(froms[k]);
+        let b = usize::from(tos[k]);
         if !table::insert(d, n, a, b, Gap(codes[k])) {
             return k;
         }
-        k += 1;
     }
-    k
+    m
 }
