@@ -3,7 +3,7 @@
 // It promises which circles are ties; what it leaves in the memory is free, as all that the search does.
 #![tactic(auto)]
 
-ghost use Rattle.std.specs.Prelude.{◌≡◌, ◌^◌, ◌≤◌, ◌<◌};
+ghost use Rattle.std.specs.Prelude.{◌≡◌, ◌^◌, ◌≤◌, ◌<◌, IfSome};
 ghost use Rattle.notes.specs.Limits.{places};
 ghost use Rattle.notes.specs.Search.{Worked};
 ghost use Rattle.circles.specs.Circle.{is_tie};
@@ -22,43 +22,38 @@ pub fn loosen(m: &mut [usize; MEMORY], n: usize, base: usize) -> bool
     requires { (n ≤ places) × (base < 2 ^ 32) }
     ensures { Worked m.old m.new }
 {
-    let mut i = 0;
-    while i < n {
-        let x = walk(m, i, base);
-        if x < PLACES {
+    for i in 0..n {
+        if let Some(x) = walk(m, i, base) {
             if !around(m, x) {
                 return false;
             }
             free(m, x);
         }
-        i += 1;
     }
     true
 }
 
-// From point i on until no bound lowered the point, or it is marked: with this walk's mark there is a circle. A point of it, or PLACES.
+// From point i on until no bound lowered the point, or it is marked: with this walk's mark there is a circle. A point of it.
 // Marks of earlier looks are under the base.
-fn walk(m: &mut [usize; MEMORY], i: usize, base: usize) -> usize
+fn walk(m: &mut [usize; MEMORY], i: usize, base: usize) -> Option<usize>
     requires { (i < places) × (base < 2 ^ 32) }
-    ensures answer { result ≤ places }
+    ensures answer { IfSome result (λ x. x < places) }
     ensures worked { Worked m.old m.new }
 {
     let mut x = i;
-    let mut left = PLACES;
-    while 0 < left {
+    for _ in 0..PLACES {
         let seen = m[MARKS + x];
         if base <= seen {
-            return if seen == base + i { x } else { PLACES };
+            return if seen == base + i { Some(x) } else { None };
         }
         m[MARKS + x] = base + i;
         let by = m[BY + x];
         if by == 0 {
-            return PLACES;
+            return None;
         }
         x = m[by % MEMORY] / POINT % PLACES;
-        left -= 1;
     }
-    PLACES
+    None
 }
 
 // Whether the circle through x is a tie: its bounds' c add up to nothing, and none is strict.
@@ -69,8 +64,7 @@ fn around(m: &[usize; MEMORY], x: usize) -> bool
     let mut sum = 0;
     let mut due = 0;
     let mut y = x;
-    let mut left = PLACES;
-    while 0 < left {
+    for _ in 0..PLACES {
         let bound = m[m[BY + y] % MEMORY];
         let weight = bound / WEIGHT % notes::TOP;
         sum += weight / SLACKS + weight % 2;
@@ -79,7 +73,6 @@ fn around(m: &[usize; MEMORY], x: usize) -> bool
         if y == x {
             return sum == due;
         }
-        left -= 1;
     }
     false
 }
@@ -90,8 +83,7 @@ fn free(m: &mut [usize; MEMORY], x: usize)
     ensures { Worked m.old m.new }
 {
     let mut y = x;
-    let mut left = PLACES;
-    while 0 < left {
+    for _ in 0..PLACES {
         let at = m[BY + y] % MEMORY;
         let bound = m[at];
         m[at] = bound | NO_SLACK;
@@ -100,6 +92,5 @@ fn free(m: &mut [usize; MEMORY], x: usize)
         if y == x {
             return;
         }
-        left -= 1;
     }
 }

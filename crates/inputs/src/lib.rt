@@ -9,6 +9,7 @@ ghost use Rattle.notes.specs.Limits.{places, memory};
 ghost use Rattle.notes.specs.Search.{Worked};
 
 use notes::{APPLICATIONS, INPUTS, MEMORY, PLACES, SHELVES, TOP};
+use sheet::Biased;
 
 // An odd number of shelves to begin at: inputs differ by multiples of powers of two.
 const SPREAD: usize = PLACES - 1;
@@ -20,14 +21,12 @@ pub fn pass(m: &mut [usize; MEMORY], before: usize, base: usize) -> usize
     ensures worked { Worked m.old m.new }
 {
     let mut end = before;
-    let mut k = 0;
-    while k < sheet::MAX_TERMS {
+    for k in 0..sheet::MAX_TERMS {
         let application = m[APPLICATIONS + k];
         if application == 0 {
             return end;
         }
         end = place(m, end, base, k, application);
-        k += 1;
     }
     end
 }
@@ -62,7 +61,7 @@ fn level(m: &mut [usize; MEMORY], end: usize, i: usize, j: usize) -> usize
     if MEMORY < end + 2 {
         return end;
     }
-    let more = notes::tie(m, end, i, j, 0);
+    let more = notes::tie(m, end, i, j, Biased::ZERO);
     lowering::lower(m, end);
     lowering::lower(m, end + 1);
     more
@@ -73,14 +72,12 @@ fn shelf_of(m: &[usize; MEMORY], input: usize, base: usize) -> usize
     ensures { result < memory }
 {
     let mut s = input % SPREAD;
-    let mut left = PLACES;
-    while 0 < left {
+    for _ in 0..PLACES {
         let there = m[SHELVES + s];
         if (there < base) | (m[INPUTS + there % sheet::MAX_TERMS] == input) {
             return SHELVES + s;
         }
         s = (s + 1) % PLACES;
-        left -= 1;
     }
     SHELVES + s
 }

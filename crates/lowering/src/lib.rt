@@ -20,11 +20,9 @@ pub fn sweep(m: &mut [usize; MEMORY], end: usize, turn: usize) -> bool
     let up = turn % 2 == 1;
     let reach = if turn < LATE { 1 } else { PLACES };
     let mut fell = false;
-    let mut k = BOUNDS;
-    while k < end {
+    for k in BOUNDS..end {
         let at = if up { k } else { end - 1 - (k - BOUNDS) };
-        fell = fell | follow(m, at, reach);
-        k += 1;
+        fell |= follow(m, at, reach);
     }
     fell
 }
@@ -37,17 +35,15 @@ fn follow(m: &mut [usize; MEMORY], at: usize, reach: usize) -> bool
 {
     let first = m[at] / POINT % PLACES;
     let mut k = at;
-    let mut left = reach;
-    while 0 < left {
+    for steps in 0..reach {
         if !lower(m, k) {
-            return left < reach;
+            return 0 < steps;
         }
         let x = m[k] % PLACES;
         k = m[ON + x] % MEMORY;
         if (k < BOUNDS) | (x == first) {
             return true;
         }
-        left -= 1;
     }
     true
 }

@@ -7,12 +7,13 @@
 ghost use Rattle.std.specs.Prelude.{◌≡◌, ◌+◌, ◌*◌, ◌%◌, ◌≤◌, ◌<◌, length};
 ghost use Rattle.sheet.specs.Decode.{Sized, sheet_of};
 ghost use Rattle.sheet.specs.Limits.{max_terms};
+ghost use Rattle.sheet.specs.Says.{term_says};
 ghost use Rattle.sheet.specs.Sheet.{WellFormed, count_entries};
 ghost use Rattle.notes.specs.Limits.{places, memory, slacks};
-ghost use Rattle.notes.specs.Noted.{bound_of, application_of};
+ghost use Rattle.notes.specs.Noted.{bound_of, application_of, noted_of};
 ghost use Rattle.notes.specs.Search.{Worked};
 
-use sheet::{EntryNumber, Fields, TermNumber};
+use sheet::{Biased, Entry, EntryNumber, Relation, Term, TermNumber};
 
 // Places for points: more than there are, so that what is left of any number below it is a place, and a power of two as long as the limit
 // of terms is one, so that this is quick.
@@ -88,25 +89,18 @@ fn put(m: &mut [usize; MEMORY], at: usize, bound: usize) -> usize
 }
 
 // Notes that a is b and c: it is at most that, and that is at most it.
-pub fn tie(m: &mut [usize; MEMORY], at: usize, a: usize, b: usize, c: u16) -> usize
+pub fn tie(m: &mut [usize; MEMORY], at: usize, a: usize, b: usize, c: Biased) -> usize
     requires { (at ≤ memory) × (a < places) × (b < places) }
     ensures answer { (at ≤ result) × (result ≤ memory) }
     ensures worked { Worked m.old m.new }
 {
-    let over = biased(c);
+    let over = c.0 as usize;
     let next = put(m, at, bound(a, b, over, 0));
     put(m, next, bound(b, a, 2 * BIAS - over, 0))
 }
 
-// Two's complement, as a record has it, with the bias.
-fn biased(c: u16) -> usize
-    ensures { (result ≡ (c + 32768) % 65536) × (result < 65536) }
-{
-    (c as usize + BIAS) % (2 * BIAS)
-}
-
-// The bounds of the terms, from the first place on, and the applications; answers the place behind the bounds. What is no application is
-// noted as none, and then written over.
+// The bounds of the terms, from the first place on, and the applications; answers the place behind the bounds. The memory begins as
+// zeros, so that none stands behind the last application.
 pub fn note_terms(m: &mut [usize; MEMORY], sheet: &[u8]) -> usize
     requires { Sized sheet.now × WellFormed (sheet_of sheet.now) }
     ensures answer { result ≤ memory }
@@ -115,31 +109,29 @@ pub fn note_terms(m: &mut [usize; MEMORY], sheet: &[u8]) -> usize
     let t = reading::count_terms(sheet);
     let mut at = BOUNDS;
     let mut applied = APPLICATIONS;
-    let mut i = 0;
-    while i < t {
+    for i in 0..t {
         let own = TermNumber(i as u8);
-        let record = reading::fields_at(sheet, 6 + 6 * i);
-        at = note_term(m, at, own, t, record);
-        let application = application_of(own, record);
-        m[applied] = application;
-        applied += application / ONE % 2;
-        i += 1;
+        let term = reading::term_at(sheet, own);
+        at = note_term(m, at, own, t, term);
+        if let Some(application) = application_of(own, term) {
+            m[applied] = application;
+            applied += 1;
+        }
     }
     at
 }
 
-// A number, of kind 1, is tied to the zero level z, and a shift, of kind 2, to its term.
-fn note_term(m: &mut [usize; MEMORY], at: usize, i: TermNumber, z: usize, f: Fields) -> usize
+// A number is tied to the zero level z, and a shift to its term.
+fn note_term(m: &mut [usize; MEMORY], at: usize, i: TermNumber, z: usize, x: Term) -> usize
     requires { (at ≤ memory) × (z ≤ max_terms) }
     ensures answer { result ≤ memory }
     ensures worked { Worked m.old m.new }
 {
-    let kind = f.kind;
-    if (kind == 0) | (2 < kind) {
-        return at;
+    match x {
+        Term::Number(c) => tie(m, at, i.0 as usize, z, c),
+        Term::Shift(a, c) => tie(m, at, i.0 as usize, a.0 as usize, c),
+        _ => at,
     }
-    let to = if kind == 1 { z } else { f.a as usize };
-    tie(m, at, i.0 as usize, to, f.c)
 }
 
 // The bounds of the set's entries, from a place on; answers the place behind them.
@@ -149,49 +141,51 @@ pub fn note_entries(m: &mut [usize; MEMORY], sheet: &[u8], set: &[bool], before:
     ensures answer { result ≤ memory }
     ensures worked { Worked m.old m.new }
 {
-    let first = 6 + 6 * reading::count_terms(sheet);
     let l = reading::count_entries(sheet);
     let mut at = before;
-    let mut e = 0;
-    while e < l {
-        let own = EntryNumber(e as u8);
-        at = note_entry(m, at, own, set[e], reading::fields_at(sheet, first + 6 * e));
-        e += 1;
+    for e in 0..l {
+        if set[e] {
+            let own = EntryNumber(e as u8);
+            at = note_entry(m, at, own, reading::entry_at(sheet, own));
+        }
     }
     at
 }
 
-// An entry of kind 0 is a tie, one of kind 1, a ≠, no bound, as one that isn't in the set; 2 is ≤, and 3 is <. Each has a slack of its own, so that most of what isn't
-// tied comes apart; it is even for ≤, and odd for <. Sums of slacks can still be equal: then a guess is missed.
-fn note_entry(m: &mut [usize; MEMORY], at: usize, e: EntryNumber, marked: bool, f: Fields) -> usize
+// = is a tie, and a ≠ is no bound. Of ≤ and < each has a slack of its own, so that most of what isn't tied comes apart; it is even for ≤,
+// and odd for <. Sums of slacks can still be equal: then a guess is missed.
+fn note_entry(m: &mut [usize; MEMORY], at: usize, e: EntryNumber, x: Entry) -> usize
     requires { at ≤ memory }
     ensures answer { result ≤ memory }
     ensures worked { Worked m.old m.new }
 {
-    let kind = f.kind;
-    if !marked | (kind == 1) {
-        return at;
+    let a = x.a.0 as usize;
+    let b = x.b.0 as usize;
+    let slack = 2 + 2 * ((e.0 as usize) * 113 % STEPS);
+    match x.relation {
+        Relation::Equal => tie(m, at, a, b, x.c),
+        Relation::Unequal => at,
+        Relation::AtMost => put(m, at, bound(a, b, x.c.0 as usize, slack)),
+        Relation::Less => put(m, at, bound(a, b, x.c.0 as usize, slack + 1)),
     }
-    let a = f.a as usize;
-    let b = f.b as usize;
-    if kind == 0 {
-        return tie(m, at, a, b, f.c);
-    }
-    let slack = 2 + 2 * ((e.0 as usize) * 113 % STEPS) + (kind as usize) % 2;
-    put(m, at, bound(a, b, biased(f.c), slack))
 }
 
-// An application, of kind 3 or 4, is one number: its own, its two arguments, and its kind and symbol; 0 is none.
-fn application_of(i: TermNumber, f: Fields) -> usize
-    ensures none { f.kind < 3 → result ≡ 0 }
-    ensures one { 3 ≤ f.kind → result ≡ application_of i.0 f.a f.b (256 * (f.kind % 2) + f.symbol) }
+// An application is one number: its own, its two arguments, and its kind and symbol.
+fn application_of(i: TermNumber, x: Term) -> Option<usize>
+    ensures { result ≡ noted_of i.0 (term_says x) }
 {
-    let kind = f.kind;
-    if kind < 3 {
-        return 0;
+    match x {
+        Term::Apply(f, a) => Some(application(i, a, TermNumber(0), 256 + f.0 as usize)),
+        Term::Apply2(f, a, b) => Some(application(i, a, b, f.0 as usize)),
+        _ => None,
     }
-    let key = 256 * ((kind as usize) % 2) + f.symbol as usize;
-    ONE + i.0 as usize + FIRST * f.a as usize + SECOND * f.b as usize + KEY * key
+}
+
+fn application(i: TermNumber, a: TermNumber, b: TermNumber, key: usize) -> usize
+    requires { key < 512 }
+    ensures { result ≡ application_of i.0 a.0 b.0 key }
+{
+    ONE + i.0 as usize + FIRST * a.0 as usize + SECOND * b.0 as usize + KEY * key
 }
 
 // The fields of an application: its arguments, its kind and symbol, and a mark that it is one.

@@ -33,9 +33,7 @@ fn settle(m: &mut [usize; MEMORY], n: usize, before: usize) -> bool
     ensures { Worked m.old m.new }
 {
     let mut end = before;
-    let mut turn = 0;
-    while turn < TURNS {
-        turn += 1;
+    for turn in 1..=TURNS {
         // what is marked or put on a shelf in a turn is told from what was before by its base
         let base = PLACES * turn;
         if !lowering::sweep(m, end, turn) {
@@ -44,10 +42,8 @@ fn settle(m: &mut [usize; MEMORY], n: usize, before: usize) -> bool
                 return true;
             }
             end = more;
-        } else if turn % 2 == 0 {
-            if !circles::loosen(m, n, base) {
-                return false;
-            }
+        } else if turn % 2 == 0 && !circles::loosen(m, n, base) {
+            return false;
         }
     }
     false

@@ -6,8 +6,5 @@ use lib.ListN.{length}
 use Rattle.notes.specs.Limits.{places}
 use Rattle.circles.proofs.walk.Given as goal
 
-abbrev pub invariant-loop-left : goal.invariant-loop-left
-invariant-loop-left l = (length l.m ≡ length l.initial.m) × (l.x < places)
-
-abbrev pub decreases-loop-left : goal.decreases-loop-left
-decreases-loop-left l = l.left
+abbrev pub invariant-loop : goal.invariant-loop
+invariant-loop l = (length l.m ≡ length l.initial.m) × (l.x < places)

@@ -4,8 +4,5 @@ use Prim.Native.Nat.{◌<◌}
 use Rattle.notes.specs.Limits.{places}
 use Rattle.inputs.proofs.shelf_of.Given as goal
 
-abbrev pub invariant-loop-left : goal.invariant-loop-left
-invariant-loop-left l = l.s < places
-
-abbrev pub decreases-loop-left : goal.decreases-loop-left
-decreases-loop-left l = l.left
+abbrev pub invariant-loop : goal.invariant-loop
+invariant-loop l = l.s < places

@@ -6,8 +6,5 @@ use lib.ListN.{length}
 use Rattle.notes.specs.Limits.{memory}
 use Rattle.lowering.proofs.follow.Given as goal
 
-abbrev pub invariant-loop-left : goal.invariant-loop-left
-invariant-loop-left l = (length l.m ≡ length l.initial.m) × (l.k < memory)
-
-abbrev pub decreases-loop-left : goal.decreases-loop-left
-decreases-loop-left l = l.left
+abbrev pub invariant-loop-steps : goal.invariant-loop-steps
+invariant-loop-steps l = (length l.m ≡ length l.initial.m) × (l.k < memory)

