@@ -55,11 +55,9 @@ fn compare(keys: &[u64; KEYS], v: &[u64], first: u64, second: u64, level: u64, k
     ensures { Decides (Alike keys.now v.now first second level k) result }
 {
     let mut alike = true;
-    let mut j = 0;
-    while j < k {
+    for j in 0..k {
         alike = alike
             & ((keys[j] != first) | (keys[sheet::MAX_TERMS + j] != second) | (v[j] == level));
-        j += 1;
     }
     alike
 }

@@ -1,20 +1,17 @@
 -- `shelves::compare` meets its contract: what it has found is so of the terms before the counter.
 -- Assumes nothing.
-use Prim.Native.Nat.{◌-◌}
 use mathlib.Core.Path.{◌≡◌}
 use native.Mathlib.Omega.{arith}
 use Rattle.shelves.proofs.Rows.{alike-none, alike-more}
 use Rattle.shelves.proofs.compare.Goals as goal
 
 pub loop-j-init : goal.loop-j-init
-loop-j-init c = (omega arith, alike-none)
+loop-j-init c = alike-none
 
 pub loop-j-preserved : goal.loop-j-preserved
-loop-j-preserved c =
-    let loop = c.loop-j in
-    (omega arith, alike-more loop.alike loop.invariant.1)
+loop-j-preserved c = alike-more c.loop-j.alike c.loop-j.invariant
 
 pub returns : goal.returns
 returns c =
     let e : c.loop-j.j ≡ c.args.k = omega arith in
-    rw e at c.loop-j.invariant.1
+    rw e at c.loop-j.invariant
