@@ -11,7 +11,6 @@ ghost use Rattle.sheet.specs.Sheet.{WellFormed};
 ghost use Rattle.promise.specs.Answered.{number_of, place_of, Decided, Answered};
 
 use promise::Answer;
-use refusal::Checked;
 use verdict::Verdict;
 
 // Judges the sheet, and writes the answer record to the first bytes of the room unless the sheet is refused.
@@ -19,8 +18,8 @@ pub fn judge(sheet: &[u8], room: &mut [u8]) -> Answer
     ensures { Answered sheet.now room.old room.new (number_of result) (place_of result) }
 {
     match refusal::check(sheet, room.len()) {
-        Checked::Refused(why) => Answer::Refused(why),
-        Checked::Fine => decide(sheet, room),
+        Ok(()) => decide(sheet, room),
+        Err(why) => Answer::Refused(why),
     }
 }
 

@@ -8,7 +8,7 @@ ghost use Rattle.sheet.specs.Decode.{Sized, sheet_of};
 ghost use Rattle.sheet.specs.Sheet.{WellFormed};
 ghost use Rattle.reason.specs.Reasoned.{number_of, place_of, Told, Reasoned};
 
-use refusal::{Checked, Refusal};
+use refusal::Refusal;
 use verdict::Verdict;
 
 // What the call says of a sheet. Written has the length of the record in the room.
@@ -49,8 +49,8 @@ pub fn reason(sheet: &[u8], room: &mut [u8]) -> Reply
     ensures { Reasoned sheet.now room.old room.new (number_of result) (place_of result) }
 {
     match refusal::check(sheet, sheet::ROOM_NEEDED) {
-        Checked::Refused(why) => Reply::Refused(why),
-        Checked::Fine => tell(sheet, room),
+        Ok(()) => tell(sheet, room),
+        Err(why) => Reply::Refused(why),
     }
 }
 

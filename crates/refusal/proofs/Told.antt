@@ -6,8 +6,7 @@ use mathlib.Core.List.{[], ◌∷◌}
 use lib.ListN.{get_or}
 use Rattle.refusal.specs.declared.Refusal.{Refusal}
 use Rattle.refusal.specs.declared.Refusal.TheVariants.{Length, Version, Shape, WrongTerm, WrongEntry, Room}
-use Rattle.refusal.specs.declared.Checked.{Checked}
-use Rattle.refusal.specs.declared.Checked.TheVariants.{Fine, Refused}
+use Rattle.std.specs.Prelude.{Result, Ok, Err}
 use Rattle.grounds.specs.Table.{Reply, fine, refused}
 use Rattle.refusal.specs.Says.{number_of, place_of, check_says}
 
@@ -25,14 +24,14 @@ refusal-back (WrongTerm i) = refl
 refusal-back (WrongEntry e) = refl
 refusal-back Room = refl
 
-checked : Reply → Checked
-checked fine = Fine
-checked (refused number place) = Refused (refusal-of number place)
+checked : Reply → Result Unit Refusal
+checked fine = Ok tt
+checked (refused number place) = Err (refusal-of number place)
 
-checked-back : (c : Checked) → checked (check_says c) ≡ c
+checked-back : (c : Result Unit Refusal) → checked (check_says c) ≡ c
 unfolding checked
-checked-back Fine = refl
-checked-back (Refused r) = ap Refused (refusal-back r)
+checked-back (Ok tt) = refl
+checked-back (Err r) = ap Err (refusal-back r)
 
-pub check-told : (c d : Checked) → check_says c ≡ check_says d → c ≡ d
+pub check-told : (c d : Result Unit Refusal) → check_says c ≡ check_says d → c ≡ d
 check-told c d e = sym (checked-back c) ∙ ap checked e ∙ checked-back d

@@ -1,10 +1,8 @@
 -- The paper's number and place for each case of the code's enums.
 -- Assumes nothing.
-use Rattle.std.specs.Prelude.{ℕ}
+use Rattle.std.specs.Prelude.{ℕ, Result, Ok, Err}
 use Rattle.refusal.specs.declared.Refusal.{Refusal}
 use Rattle.refusal.specs.declared.Refusal.TheVariants.{Length, Version, Shape, WrongTerm, WrongEntry, Room}
-use Rattle.refusal.specs.declared.Checked.{Checked}
-use Rattle.refusal.specs.declared.Checked.TheVariants.{Fine, Refused}
 use Rattle.grounds.specs.Table.{Reply, fine, refused}
 
 abbrev pub number_of : Refusal → ℕ
@@ -23,6 +21,6 @@ place_of (WrongTerm i) = i.0
 place_of (WrongEntry e) = e.0
 place_of Room = 0
 
-abbrev pub check_says : Checked → Reply
-check_says Fine = fine
-check_says (Refused why) = refused (number_of why) (place_of why)
+abbrev pub check_says : Result Unit Refusal → Reply
+check_says (Ok _) = fine
+check_says (Err why) = refused (number_of why) (place_of why)

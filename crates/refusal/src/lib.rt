@@ -18,12 +18,6 @@ pub enum Refusal {
     Room,
 }
 
-#[derive(Clone, Copy)]
-pub enum Checked {
-    Fine,
-    Refused(Refusal),
-}
-
 impl Refusal {
     pub fn number(self) -> u8
         ensures { result ≡ number_of self }
@@ -53,29 +47,27 @@ impl Refusal {
 }
 
 // What the table says of these bytes and an answer room of this length.
-pub fn check(sheet: &[u8], room: usize) -> Checked
+pub fn check(sheet: &[u8], room: usize) -> Result<(), Refusal>
     ensures { check_says result ≡ refusal sheet.now room }
 {
     if rows::wrong_length(sheet) {
-        return Checked::Refused(Refusal::Length);
+        return Err(Refusal::Length);
     }
     if sheet[2] != 1 {
-        return Checked::Refused(Refusal::Version);
+        return Err(Refusal::Version);
     }
     if rows::wrong_shape(sheet) {
-        return Checked::Refused(Refusal::Shape);
+        return Err(Refusal::Shape);
     }
-    let i = lowest::wrong_term(sheet);
-    if i.0 < sheet[3] {
-        return Checked::Refused(Refusal::WrongTerm(i));
+    if let Some(i) = lowest::wrong_term(sheet) {
+        return Err(Refusal::WrongTerm(i));
     }
-    let e = lowest::wrong_entry(sheet);
-    if e.0 < sheet[4] {
-        return Checked::Refused(Refusal::WrongEntry(e));
+    if let Some(e) = lowest::wrong_entry(sheet) {
+        return Err(Refusal::WrongEntry(e));
     }
     if room < sheet::ROOM_NEEDED {
-        Checked::Refused(Refusal::Room)
+        Err(Refusal::Room)
     } else {
-        Checked::Fine
+        Ok(())
     }
 }

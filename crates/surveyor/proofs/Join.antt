@@ -5,6 +5,7 @@ use mathlib.Core.Path.{◌≡◌, refl}
 use mathlib.Core.Bool.{Bool, true, false, not}
 use mathlib.Core.List.{List}
 use lib.ListN.{replicate}
+use Rattle.std.specs.Prelude.{Result, Ok, Err}
 use borrow.Author.Tests.{not-true, not-false}
 use Rattle.order.specs.First.{marked}
 use Rattle.sheet.specs.Decode.{stated_entries, sheet_of}
@@ -14,15 +15,12 @@ use Rattle.sheet.proofs.Decode.{entries-stated}
 use Rattle.grounds.specs.Table.{fine, refusal}
 use Rattle.grounds.proofs.Fine.{fine-formed}
 use Rattle.grounds.proofs.Replies.{fine-sheet, fine-refused}
-use Rattle.refusal.specs.declared.Refusal.{Refusal}
-use Rattle.refusal.specs.Says.{number_of as refusal_number, place_of as refusal_place}
 use Rattle.legs.specs.Legs.{Laid}
 use Rattle.stated.specs.declared.Step.{Step as Record}
 use Rattle.surveyor.specs.Surveyed.{number_of, place_of, Rises, Told, no-list, Surveyed}
 use Rattle.surveyor.specs.Inside.{Marks, RisesSays, AllFine, ReadySays, Answers}
-use Rattle.surveyor.specs.declared.Ready.{Ready}
-use Rattle.surveyor.specs.declared.Ready.TheVariants as ready
 use Rattle.surveyor.specs.declared.Survey.{Survey}
+use Rattle.surveyor.specs.declared.Survey.TheVariants as survey
 
 module _ (sheet list : List ℕ) (listed : List Bool) (r : Bool) (h : RisesSays (stated_entries sheet) list listed r) where
   pub list-none : not r ≡ true → Rises (count_entries (sheet_of sheet)) list → ⊥
@@ -43,20 +41,18 @@ surveyed-told : {sheet list : List ℕ} {records : List Record} {N P : ℕ} → 
     Surveyed sheet list records N P
 surveyed-told e t = record { sent_back = λ Q R q. absurd (fine-refused e q); told = λ f. t }
 
-module _ (sheet list : List ℕ) (listed : List Bool) (legs : List ℕ) (r : Ready) (h : ReadySays sheet list listed legs r) where
-  pub check-refused : {records : List Record} {why : Refusal} → r ≡ ready.Refused why →
-      Surveyed sheet list records (refusal_number why) (refusal_place why)
+module _ (sheet list : List ℕ) (listed : List Bool) (legs : List ℕ) (r : Result Unit Survey) (h : ReadySays sheet list listed legs r) where
+  pub check-early : {records : List Record} (told : Survey) → r ≡ Err told → Surveyed sheet list records (number_of told) (place_of told)
   unfolding ReadySays
-  check-refused e = let f = rw e at h in record { sent_back = λ Q R q. (cc, cc); told = λ g. absurd (fine-refused g f) }
+  check-early (survey.Refused why) e = let f = rw e at h in record { sent_back = λ Q R q. (cc, cc); told = λ g. absurd (fine-refused g f) }
+  check-early survey.NoList e = let (f, n) = rw e at h in surveyed-told f (no-list n refl refl)
+  check-early survey.Yes e = absurd (rw e at h)
+  check-early (survey.Wrong n) e = absurd (rw e at h)
 
-  pub check-none : {records : List Record} → r ≡ ready.NoList → Surveyed sheet list records 27 0
-  unfolding ReadySays
-  check-none e = let (f, n) = rw e at h in surveyed-told f (no-list n refl refl)
-
-  pub check-ready : r ≡ ready.Fine → AllFine sheet list listed legs
+  pub check-ready : r ≡ Ok tt → AllFine sheet list listed legs
   unfolding ReadySays
   check-ready e = rw e at h
 
-  pub check-told : {records : List Record} {answer : Survey} → r ≡ ready.Fine → Answers (sheet_of sheet) listed records answer →
+  pub check-told : {records : List Record} {answer : Survey} → r ≡ Ok tt → Answers (sheet_of sheet) listed records answer →
       Surveyed sheet list records (number_of answer) (place_of answer)
   check-told e A = let F = check-ready e in surveyed-told F.accepted (A.told list F.marks)

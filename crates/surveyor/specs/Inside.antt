@@ -1,6 +1,6 @@
 -- What the parts of the check promise each other: the list's entries marked and the legs laid, the steps that have passed, and the answer.
 -- Assumes nothing.
-use Rattle.std.specs.Prelude.{ℕ, ◌<◌, ◌≡◌, Bool, true, false, List, length, get_or, replicate}
+use Rattle.std.specs.Prelude.{ℕ, ◌<◌, ◌≡◌, Bool, true, false, List, length, get_or, replicate, Result, Ok, Err}
 use Rattle.order.specs.First.{set_of, marked}
 use Rattle.sheet.specs.Limits.{room_needed}
 use Rattle.sheet.specs.Decode.{Sized, sheet_of}
@@ -15,8 +15,7 @@ use Rattle.traced.specs.Traced.{Traced}
 use Rattle.basis.specs.Basis.{Lent}
 use Rattle.gathered.specs.Gathers.{Upright}
 use Rattle.surveyor.specs.declared.Survey.{Survey}
-use Rattle.surveyor.specs.declared.Ready.{Ready}
-use Rattle.surveyor.specs.declared.Ready.TheVariants as ready
+use Rattle.surveyor.specs.declared.Survey.TheVariants as survey
 use Rattle.surveyor.specs.Surveyed.{number_of, place_of, Rises, Told}
 
 -- a list that rises, and the marks of its entries
@@ -42,10 +41,12 @@ pub record AllFine (sheet list : List ℕ) (listed : List Bool) (legs : List ℕ
   pub marks : Marks (count_entries (sheet_of sheet)) list listed
   pub begun : Begun sheet listed legs
 
-unfoldable pub ReadySays : (sheet list : List ℕ) (listed : List Bool) (legs : List ℕ) → Ready → Type 0
-ReadySays sheet list listed legs (ready.Refused why) = refusal sheet room_needed ≡ refused (refusal_number why) (refusal_place why)
-ReadySays sheet list listed legs ready.NoList = (refusal sheet room_needed ≡ fine) × (Rises (count_entries (sheet_of sheet)) list → ⊥)
-ReadySays sheet list listed legs ready.Fine = AllFine sheet list listed legs
+unfoldable pub ReadySays : (sheet list : List ℕ) (listed : List Bool) (legs : List ℕ) → Result Unit Survey → Type 0
+ReadySays sheet list listed legs (Ok _) = AllFine sheet list listed legs
+ReadySays sheet list listed legs (Err (survey.Refused why)) = refusal sheet room_needed ≡ refused (refusal_number why) (refusal_place why)
+ReadySays sheet list listed legs (Err survey.NoList) = (refusal sheet room_needed ≡ fine) × (Rises (count_entries (sheet_of sheet)) list → ⊥)
+ReadySays sheet list listed legs (Err survey.Yes) = ⊥
+ReadySays sheet list listed legs (Err (survey.Wrong n)) = ⊥
 
 -- the first n steps are ties of the form of steps, and what is known of them
 pub record Passed (s : Sheet) (listed : List Bool) (records : List Record) (n : ℕ) (legs links paths : List ℕ) : Type 0 where

@@ -7,12 +7,13 @@ ghost use Rattle.std.specs.Prelude.{◌≡◌, false, ◌≤◌, length, replica
 ghost use Rattle.order.specs.First.{marked, Agree};
 ghost use Rattle.sheet.specs.Decode.{sheet_of};
 ghost use Rattle.meaning.specs.Decides.{Decides};
+ghost use Rattle.surveyor.specs.declared.Survey.TheVariants.{Refused};
 ghost use Rattle.surveyor.specs.Surveyed.{number_of, place_of, Surveyed};
 ghost use Rattle.surveyor.specs.Inside.{RisesSays, ReadySays, Begun, Ended, Answers, TiesLaid};
 
 use legs::LEGS;
 use links::LINKS;
-use refusal::{Checked, Refusal};
+use refusal::Refusal;
 use routes::PATHS;
 use stated::Step;
 use upheld::Ruling;
@@ -23,6 +24,14 @@ pub enum Survey {
     NoList,
     Yes,
     Wrong(u8),
+}
+
+impl From<Refusal> for Survey {
+    ghost from_gives = { λ why told. told ≡ Refused why };
+
+    fn from(why: Refusal) -> Survey {
+        Self::Refused(why)
+    }
 }
 
 impl Survey {
@@ -49,41 +58,28 @@ impl Survey {
     }
 }
 
-// What is found before any step is looked at.
-#[derive(Clone, Copy)]
-enum Ready {
-    Refused(Refusal),
-    NoList,
-    Fine,
-}
-
 pub fn check(sheet: &[u8], list: &[u8], steps: &[Step]) -> Survey
     ensures { Surveyed sheet.now list.now steps.now (number_of result) (place_of result) }
 {
     let mut listed = [false; 256];
     let mut legs = [0u64; LEGS];
     match prepare(sheet, list, &mut listed, &mut legs) {
-        Ready::Refused(why) => Survey::Refused(why),
-        Ready::NoList => Survey::NoList,
-        Ready::Fine => go_through(sheet, &listed, &mut legs, steps),
+        Ok(()) => go_through(sheet, &listed, &mut legs, steps),
+        Err(told) => told,
     }
 }
 
 // Marks the entries of the list and lays the legs of terms and entries, unless the sheet is refused or the list is none.
-fn prepare(sheet: &[u8], list: &[u8], listed: &mut [bool], legs: &mut [u64]) -> Ready
+fn prepare(sheet: &[u8], list: &[u8], listed: &mut [bool], legs: &mut [u64]) -> Result<(), Survey>
     requires { (listed.old ≡ replicate 256 false) × (legs.old ≡ replicate 768 0) }
     ensures { ReadySays sheet.now list.now listed.new legs.new result }
 {
-    match refusal::check(sheet, sheet::ROOM_NEEDED) {
-        Checked::Refused(why) => Ready::Refused(why),
-        Checked::Fine => {
-            if !rises(list, sheet[4], listed) {
-                return Ready::NoList;
-            }
-            legs::lay(sheet, listed, legs);
-            Ready::Fine
-        }
+    refusal::check(sheet, sheet::ROOM_NEEDED)?;
+    if !rises(list, sheet[4], listed) {
+        return Err(Survey::NoList);
     }
+    legs::lay(sheet, listed, legs);
+    Ok(())
 }
 
 // Whether the entry numbers rise and are below L; as far as they do, they are marked.

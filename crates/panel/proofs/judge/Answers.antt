@@ -9,14 +9,14 @@ use Rattle.panel.proofs.judge.Goals as goal
 
 pub decide-requires : goal.decide-requires
 decide-requires c =
-    let (sheet, room) = fine-sheet _ _ (sym c.check.ensures ∙ ap check_says c.in-Fine.is) in
+    let (sheet, room) = fine-sheet _ _ (sym c.check.ensures ∙ ap check_says c.in-Ok.is) in
     let formed = fine-formed _ sheet in
     (formed.0, formed.1, room)
 
-pub returns-in-Refused : goal.returns-in-Refused
-returns-in-Refused c =
-    answered-refused _ _ _ _ (sym c.check.ensures ∙ ap check_says c.in-Refused.is)
+pub returns-in-Err : goal.returns-in-Err
+returns-in-Err c =
+    answered-refused _ _ _ _ (sym c.check.ensures ∙ ap check_says c.in-Err.is)
 
-pub returns-in-Fine : goal.returns-in-Fine
-returns-in-Fine c =
-    answered-decided _ _ _ _ _ (sym c.check.ensures ∙ ap check_says c.in-Fine.is) c.decide.ensures
+pub returns-in-Ok : goal.returns-in-Ok
+returns-in-Ok c =
+    answered-decided _ _ _ _ _ (sym c.check.ensures ∙ ap check_says c.in-Ok.is) c.decide.ensures

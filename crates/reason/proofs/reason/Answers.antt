@@ -9,12 +9,12 @@ use Rattle.reason.proofs.reason.Goals as goal
 
 pub tell-requires : goal.tell-requires
 tell-requires c =
-    fine-formed _ (fine-sheet _ _ (sym c.check.ensures ∙ ap check_says c.in-Fine.is)).0
+    fine-formed _ (fine-sheet _ _ (sym c.check.ensures ∙ ap check_says c.in-Ok.is)).0
 
-pub returns-in-Refused : goal.returns-in-Refused
-returns-in-Refused c =
-    reasoned-refused _ _ _ _ (sym c.check.ensures ∙ ap check_says c.in-Refused.is)
+pub returns-in-Err : goal.returns-in-Err
+returns-in-Err c =
+    reasoned-refused _ _ _ _ (sym c.check.ensures ∙ ap check_says c.in-Err.is)
 
-pub returns-in-Fine : goal.returns-in-Fine
-returns-in-Fine c =
-    reasoned-told _ _ _ _ _ (sym c.check.ensures ∙ ap check_says c.in-Fine.is) c.tell.ensures
+pub returns-in-Ok : goal.returns-in-Ok
+returns-in-Ok c =
+    reasoned-told _ _ _ _ _ (sym c.check.ensures ∙ ap check_says c.in-Ok.is) c.tell.ensures

@@ -2,6 +2,7 @@
 -- Assumes nothing.
 use Prim.Native.Nat.{ℕ}
 use mathlib.Core.Path.{◌≡◌, sym, ap, ◌∙◌}
+use Rattle.std.proofs.lemmas.Result.{err_from_is_err_and}
 use native.Mathlib.Omega.{arith}
 use lib.ListN.{length, length-replicate}
 use Rattle.sheet.specs.Limits.{room_needed}
@@ -14,28 +15,30 @@ use Rattle.surveyor.proofs.Join.{list-none, list-some, all-fine}
 use Rattle.surveyor.proofs.prepare.Goals as goal
 
 pub bounds-sheet-4 : goal.bounds-sheet-4
-bounds-sheet-4 c = omega (arith, (fine-formed _ (fine-sheet _ _ (sym c.check.ensures ∙ ap check_says c.in-Fine.is)).0).0.whole)
+bounds-sheet-4 c = omega (arith, (fine-formed _ (fine-sheet _ _ (sym c.in_ok-check.ensures)).0).0.whole)
 
 pub returns-then-not-rises : goal.returns-then-not-rises
 unfolding ReadySays
 returns-then-not-rises c =
-    (sym c.check.ensures ∙ ap check_says c.in-Fine.is, list-none _ _ _ _ c.rises.ensures c.if-not-rises.true-raw)
+    (sym c.in_ok-check.ensures, list-none _ _ _ _ c.rises.ensures c.if-not-rises.true-raw)
 
 pub lay-requires : goal.lay-requires
 lay-requires c =
-    let (sized, formed) = fine-formed _ (fine-sheet _ _ (sym c.check.ensures ∙ ap check_says c.in-Fine.is)).0 in (
+    let (sized, formed) = fine-formed _ (fine-sheet _ _ (sym c.in_ok-check.ensures)).0 in (
       sized,
       formed,
       (list-some c.args.sheet.now c.args.list.now _ c.rises.result c.rises.ensures c.if-not-rises.false-raw).size,
       ap length c.requires.1 ∙ length-replicate {A = ℕ} 768 0,
     )
 
-pub returns-in-Refused : goal.returns-in-Refused
+pub returns-in_err-check : goal.returns-in_err-check
 unfolding ReadySays
-returns-in-Refused c = sym c.check.ensures ∙ ap check_says c.in-Refused.is
+returns-in_err-check c =
+    let told = err_from_is_err_and c.from_residual.result c.from_residual.ensures.1 in
+    rw (told.1, told.2) (sym c.in_err-check.ensures)
 
-pub returns-else-not-rises : goal.returns-else-not-rises
+pub returns : goal.returns
 unfolding ReadySays
-returns-else-not-rises c =
-    all-fine c.requires.1 (sym c.check.ensures ∙ ap check_says c.in-Fine.is)
+returns c =
+    all-fine c.requires.1 (sym c.in_ok-check.ensures)
     (list-some _ _ _ _ c.rises.ensures c.if-not-rises.false-raw) c.lay.ensures
