@@ -1,16 +1,17 @@
 -- A leg further leads to one stand, and so does a walk; a walk goes on from where it has come to.
 -- Assumes nothing.
-use Prim.Native.Nat.{ℕ, ◌+◌, ◌*◌, ◌/◌, ◌%◌, ◌≤◌, ◌<◌}
+use Prim.Native.Nat.{ℕ, zero, suc, ◌+◌, ◌*◌, ◌/◌, ◌%◌, ◌≤◌, ◌<◌}
 use mathlib.Core.Path.{◌≡◌, refl}
+use mathlib.Core.Bool.{cond}
 use mathlib.Core.List.{List, ◌∷◌}
-use lib.ListN.{length, get_or, take, drop, drop_of_length-le}
-use lib.Seq.{drop-cons, get_or-take, length-take-le}
+use lib.Dec.{eqb}
+use lib.ListN.{length, get_or, drop, drop_of_length-le}
+use lib.Seq.{drop-cons}
 use native.Mathlib.Omega.{arith}
 use native.Mathlib.Numerals.{add-one}
 use Rattle.legs.specs.declared.Stand.{Stand}
-use Rattle.legs.specs.declared.Walked.{Walked}
-use Rattle.legs.specs.declared.Walked.TheVariants.{Nowhere, To}
-use Rattle.legs.specs.Legs.{range, way_of, from_of, to_of, either_way, leg_at, Further, Goes, FurtherSays, WalkSays}
+use Rattle.std.specs.Prelude.{Option, Some, None}
+use Rattle.legs.specs.Legs.{range, leg_at, Further, Goes, FurtherSays, WalkSays}
 use Rattle.legs.specs.Legs.Further.{forth, back}
 use Rattle.legs.specs.Legs.Goes.{stays, on}
 
@@ -26,17 +27,9 @@ pub further-gap : {leg turned : ℕ} {s t : Stand} → Further leg turned s t �
 further-gap (forth p q) = omega arith
 further-gap (back p q) = omega arith
 
-pub not-forth : {leg turned : ℕ} {s : Stand} → turned ≡ 0 → (0 < way_of leg → from_of leg ≡ s.at → ⊥) → (t : Stand) → Further leg turned s t → ⊥
-not-forth e n t (forth p q) = n p q
-not-forth e n t (back p q) = absurd (omega arith)
-
-pub not_back : {leg turned : ℕ} {s : Stand} → turned ≡ 1 → (way_of leg ≡ either_way → to_of leg ≡ s.at → ⊥) → (t : Stand) → Further leg turned s t → ⊥
-not_back e n t (forth p q) = absurd (omega arith)
-not_back e n t (back p q) = n p q
-
 -- what is said of the rest of a row, from where the walk has come to, is said of the row from where it starts
 pub record Ahead (legs row : List ℕ) (start stand : Stand) (x : ℕ) : Type 0 where
-  pub says : (r : Walked) → WalkSays legs (drop x row) stand r → WalkSays legs row start r
+  pub says : (r : Option Stand) → WalkSays legs (drop x row) stand r → WalkSays legs row start r
 
 pub ahead_none : {legs row : List ℕ} {start : Stand} → Ahead legs row start start 0
 ahead_none = record { says = λ r h. h }
@@ -45,36 +38,44 @@ module _ (legs : List ℕ) (bound : ℕ) (rest : List ℕ) {s : Stand} where
   no_bound : 6 * 256 ≤ bound → (t : Stand) → Goes legs (bound ∷ rest) s t → ⊥
   no_bound h t (on l f g) = omega arith
 
-  no-further : FurtherSays (leg_at legs bound) (bound / 256 % 2) s Nowhere → (t : Stand) → Goes legs (bound ∷ rest) s t → ⊥
+  no-further : FurtherSays (leg_at legs bound) (bound / 256 % 2) s None → (t : Stand) → Goes legs (bound ∷ rest) s t → ⊥
   no-further n t (on l f g) = n _ f
 
-  no-rest : {next : Stand} → Further (leg_at legs bound) (bound / 256 % 2) s next → WalkSays legs rest next Nowhere →
+  no-rest : {next : Stand} → Further (leg_at legs bound) (bound / 256 % 2) s next → WalkSays legs rest next None →
       (t : Stand) → Goes legs (bound ∷ rest) s t → ⊥
   no-rest f n t (on l f' g) = n t (rw (further-one f' f) at g)
 
   one_further : {next : Stand} → bound < 6 * 256 → Further (leg_at legs bound) (bound / 256 % 2) s next →
-      (r : Walked) → WalkSays legs rest next r → WalkSays legs (bound ∷ rest) s r
-  one_further l f Nowhere h = no-rest f h
-  one_further l f (To t) h = on l f h
+      (r : Option Stand) → WalkSays legs rest next r → WalkSays legs (bound ∷ rest) s r
+  one_further l f None h = no-rest f h
+  one_further l f (Some t) h = on l f h
 
-module _ {legs : List ℕ} (bounds : List ℕ) {count x : ℕ} {start stand : Stand} (fits : count ≤ length bounds)
-    (A : Ahead legs (take count bounds) start stand x) where
-  pub ahead-all : count ≤ x → Goes legs (take count bounds) start stand
-  ahead-all h = A.says (To stand) (rw (drop_of_length-le (take count bounds) {i = x} (simp length-take-le (omega arith))) stays)
+-- the code turns on a test
+turned : (n : ℕ) → n < 2 → cond (eqb n 1) 1 0 ≡ n
+turned zero h = refl
+turned (suc zero) h = refl
+turned (suc (suc n)) h = absurd (omega arith)
 
-  module _ (h : x < count) where
-    rest-is : drop x (take count bounds) ≡ get_or bounds x 0 ∷ drop (x + 1) (take count bounds)
-    rest-is =
-        let l : x < length (take count bounds) = simp length-take-le (omega arith) in
-        rw (add-one, drop-cons (take count bounds) x 0 l, get_or-take)
+abbrev turn_at : List ℕ → ℕ → ℕ
+turn_at row x = cond (eqb (get_or row x 0 / 256 % 2) 1) 1 0
 
-    pub ahead-wrong : 6 * 256 ≤ get_or bounds x 0 → WalkSays legs (take count bounds) start Nowhere
-    ahead-wrong l = A.says Nowhere (rw rest-is (no_bound _ _ _ l))
+module _ {legs row : List ℕ} {x : ℕ} {start stand : Stand} (A : Ahead legs row start stand x) where
+  pub ahead-all : length row ≤ x → Goes legs row start stand
+  ahead-all h = A.says (Some stand) (rw (drop_of_length-le row {i = x} h) stays)
 
-    pub ahead-lost : FurtherSays (leg_at legs (get_or bounds x 0)) (get_or bounds x 0 / 256 % 2) stand Nowhere →
-        WalkSays legs (take count bounds) start Nowhere
-    ahead-lost n = A.says Nowhere (rw rest-is (no-further _ _ _ n))
+  module _ (h : x < length row) where
+    rest-is : drop x row ≡ get_or row x 0 ∷ drop (x + 1) row
+    rest-is = rw (add-one, drop-cons row x 0 h)
 
-    pub ahead_more : {next : Stand} → get_or bounds x 0 < 6 * 256 → Further (leg_at legs (get_or bounds x 0)) (get_or bounds x 0 / 256 % 2) stand next →
-        Ahead legs (take count bounds) start next (x + 1)
-    ahead_more l f = record { says = λ r h. A.says r (rw rest-is (one_further _ _ _ l f r h)) }
+    turn-is : turn_at row x ≡ get_or row x 0 / 256 % 2
+    turn-is = turned _ (omega arith)
+
+    pub ahead-wrong : 6 * 256 ≤ get_or row x 0 → WalkSays legs row start None
+    ahead-wrong l = A.says None (rw rest-is (no_bound _ _ _ l))
+
+    pub ahead-lost : FurtherSays (leg_at legs (get_or row x 0)) (turn_at row x) stand None → WalkSays legs row start None
+    ahead-lost n = A.says None (rw rest-is (no-further _ _ _ (rw turn-is at n)))
+
+    pub ahead_more : {next : Stand} → get_or row x 0 < 6 * 256 → Further (leg_at legs (get_or row x 0)) (turn_at row x) stand next →
+        Ahead legs row start next (x + 1)
+    ahead_more l f = record { says = λ r h. A.says r (rw rest-is (one_further _ _ _ l (rw turn-is at f) r h)) }

@@ -1,12 +1,12 @@
 -- Legs as numbers, which legs a sheet and a set of entries have, and walks over them.
 -- Assumes nothing.
-use Rattle.std.specs.Prelude.{ℕ, ◌+◌, ◌-◌, ◌*◌, ◌/◌, ◌%◌, ◌^◌, ◌≤◌, ◌<◌, ◌≡◌, Bool, true, false, ◌||◌, List, [], ◌∷◌, eqb, length, get_or, ℤ}
+use Rattle.std.specs.Prelude.{ℕ, ◌+◌, ◌-◌, ◌*◌, ◌/◌, ◌%◌, ◌^◌, ◌≤◌, ◌<◌, ◌≡◌, Bool, true, false, ◌||◌, List, [], ◌∷◌, eqb, length, get_or, ℤ, Option, Some, None}
 use Rattle.big.specs.Big.{complement_of}
 use Rattle.order.specs.First.{Set}
 use Rattle.sheet.specs.Sheet.{Term, unknown, number, shift, apply, apply2, Relation, equal, unequal, at_most, less, Entry, Sheet, count_terms, count_entries, term_at, entry_at}
 use Rattle.legs.specs.declared.Stand.{Stand}
-use Rattle.legs.specs.declared.Walked.{Walked}
-use Rattle.legs.specs.declared.Walked.TheVariants.{Nowhere, To}
+use Rattle.legs.specs.declared.Way.{Way}
+use Rattle.legs.specs.declared.Way.TheVariants.{Forwards, Strict, Either}
 
 -- gaps are two's complement of five bytes
 abbrev pub range : ℕ
@@ -40,6 +40,11 @@ strictly = 2
 
 abbrev pub either_way : ℕ
 either_way = 3
+
+abbrev pub way_says : Way → ℕ
+way_says Forwards = forwards
+way_says Strict = strictly
+way_says Either = either_way
 
 -- a number goes to the zero level, a shift to its argument
 abbrev pub term_leg : (level own : ℕ) → Term → ℕ
@@ -109,10 +114,10 @@ abbrev pub start_at : ℕ → Stand
 start_at i = record { at = i; gap = 0; strict = false }
 
 -- what is said of a leg further, and of a walk
-abbrev pub FurtherSays : (leg turned : ℕ) → Stand → Walked → Type 0
-FurtherSays leg turned s Nowhere = (t : Stand) → Further leg turned s t → ⊥
-FurtherSays leg turned s (To t) = Further leg turned s t
+abbrev pub FurtherSays : (leg turned : ℕ) → Stand → Option Stand → Type 0
+FurtherSays leg turned s None = (t : Stand) → Further leg turned s t → ⊥
+FurtherSays leg turned s (Some t) = Further leg turned s t
 
-abbrev pub WalkSays : (legs bounds : List ℕ) → Stand → Walked → Type 0
-WalkSays legs bounds s Nowhere = (t : Stand) → Goes legs bounds s t → ⊥
-WalkSays legs bounds s (To t) = Goes legs bounds s t
+abbrev pub WalkSays : (legs bounds : List ℕ) → Stand → Option Stand → Type 0
+WalkSays legs bounds s None = (t : Stand) → Goes legs bounds s t → ⊥
+WalkSays legs bounds s (Some t) = Goes legs bounds s t

@@ -3,24 +3,17 @@
 // It rests on the sheet's terms and entries, knows nothing of tables, and promises of each leg the number that specs/ gives it.
 #![tactic(auto)]
 
-ghost use Rattle.std.specs.Prelude.{◌≡◌, ◌+◌, ◌≤◌, ◌<◌, length, set, take};
+ghost use Rattle.std.specs.Prelude.{cond, ◌≡◌, ◌+◌, ◌≤◌, ◌<◌, length, set, take};
 ghost use Rattle.order.specs.First.{marked};
 ghost use Rattle.sheet.specs.Decode.{Sized, sheet_of};
 ghost use Rattle.sheet.specs.Says.{term_says, entry_says, biased_says};
 ghost use Rattle.sheet.specs.Sheet.{WellFormed, count_terms, count_entries};
-ghost use Rattle.legs.specs.Legs.{range, gap_for, word_of, way_of, gap_of, from_of, to_of, either_way, term_leg, entry_leg, tie_place, LaidEntries, LaidTerms, Laid, start_at, FurtherSays, WalkSays};
+ghost use Rattle.legs.specs.Legs.{range, gap_for, word_of, way_of, gap_of, from_of, to_of, way_says, either_way, term_leg, entry_leg, tie_place, LaidEntries, LaidTerms, Laid, start_at, FurtherSays, WalkSays};
 
 use sheet::{Biased, Entry, EntryNumber, Relation, Term, TermNumber};
 
 // Gaps are two's complement of five bytes: whatever ties and walks of a right reason come to lies within them.
 pub const RANGE: u64 = 1099511627776;
-
-// Which way a leg may be gone: not at all, forwards, forwards as a strict bound, either way.
-const FORWARDS: u8 = 1;
-
-const STRICT: u8 = 2;
-
-const EITHER: u8 = 3;
 
 // Where the legs of terms and of ties begin, and how many legs there are.
 const TERMS: usize = 256;
@@ -28,6 +21,14 @@ const TERMS: usize = 256;
 const TIES: usize = 512;
 
 pub const LEGS: usize = 768;
+
+// Which way a leg may be gone: forwards, forwards as a strict bound, either way. A leg that isn't there is 0.
+#[derive(Clone, Copy)]
+enum Way {
+    Forwards = 1,
+    Strict = 2,
+    Either = 3,
+}
 
 // Where a walk has come to: the point, the sum of its gaps, and whether one of them is strict.
 #[derive(Clone, Copy)]
@@ -37,20 +38,15 @@ pub struct Stand {
     pub strict: bool,
 }
 
-#[derive(Clone, Copy)]
-pub enum Walked {
-    Nowhere,
-    To(Stand),
-}
-
-fn word(way: u8, gap: u64, from: u8, to: u8) -> u64
+fn word(way: Way, gap: u64, from: u8, to: u8) -> u64
     requires { gap < range }
-    ensures { result ≡ word_of way gap from to }
+    ensures { result ≡ word_of (way_says way) gap from to }
 {
     ((way as u64 * RANGE + gap) * 256 + from as u64) * 256 + to as u64
 }
 
-fn way(leg: u64) -> u8
+// The number of the way that a leg may be gone, and 0 for one that isn't there.
+fn code(leg: u64) -> u8
     ensures { result ≡ way_of leg }
 {
     (leg / (65536 * RANGE)) as u8
@@ -95,10 +91,8 @@ fn lay_entries(sheet: &[u8], listed: &[bool], legs: &mut [u64])
     ensures { LaidEntries (sheet_of sheet.now) (marked listed.now) (count_entries (sheet_of sheet.now)) legs.old legs.new }
 {
     let count = reading::count_entries(sheet);
-    let mut e = 0;
-    while e < count {
+    for e in 0..count {
         legs[e] = entry_leg(reading::entry_at(sheet, EntryNumber(e as u8)), listed[e]);
-        e += 1;
     }
 }
 
@@ -107,11 +101,9 @@ fn lay_terms(sheet: &[u8], legs: &mut [u64])
     ensures { LaidTerms (sheet_of sheet.now) (count_terms (sheet_of sheet.now)) legs.old legs.new }
 {
     let count = reading::count_terms(sheet);
-    let mut i = 0;
-    while i < count {
+    for i in 0..count {
         let own = TermNumber(i as u8);
         legs[TERMS + i] = term_leg(own, reading::term_at(sheet, own), count as u8);
-        i += 1;
     }
 }
 
@@ -124,10 +116,10 @@ fn entry_leg(entry: Entry, listed: bool) -> u64
     }
     let relation = entry.relation;
     let way = match relation {
-        Relation::Equal => EITHER,
+        Relation::Equal => Way::Either,
         Relation::Unequal => return 0,
-        Relation::AtMost => FORWARDS,
-        Relation::Less => STRICT,
+        Relation::AtMost => Way::Forwards,
+        Relation::Less => Way::Strict,
     };
     word(way, gap_of(entry.c), entry.a.0, entry.b.0)
 }
@@ -137,8 +129,8 @@ fn term_leg(own: TermNumber, term: Term, zero: u8) -> u64
     ensures { result ≡ term_leg zero own.0 (term_says term) }
 {
     match term {
-        Term::Number(c) => word(EITHER, gap_of(c), own.0, zero),
-        Term::Shift(a, c) => word(EITHER, gap_of(c), own.0, a.0),
+        Term::Number(c) => word(Way::Either, gap_of(c), own.0, zero),
+        Term::Shift(a, c) => word(Way::Either, gap_of(c), own.0, a.0),
         _ => 0,
     }
 }
@@ -148,11 +140,11 @@ pub fn lay_tie(legs: &mut [u64], t: u8, a: u8, b: u8, gap: u64)
     requires { (length legs.old ≡ 768) × (gap < range) }
     ensures { legs.new ≡ set legs.old (tie_place + t) (word_of either_way gap a b) }
 {
-    legs[TIES + t as usize] = word(EITHER, gap, a, b);
+    legs[TIES + t as usize] = word(Way::Either, gap, a, b);
 }
 
-// The walk from a point over the first bounds of a row, each a kind times 256 and a number.
-pub fn walk(legs: &[u64], bounds: &[u16], count: u8, start: u8) -> Walked
+// The walk from a point over the first bounds of a row, each a kind times 256 and a number: where it comes to, if it can be gone.
+pub fn walk(legs: &[u64], bounds: &[u16], count: u8, start: u8) -> Option<Stand>
     requires { (length legs.now ≡ 768) × (count ≤ length bounds.now) }
     ensures { WalkSays legs.now (take count bounds.now) (start_at start) result }
 {
@@ -161,45 +153,37 @@ pub fn walk(legs: &[u64], bounds: &[u16], count: u8, start: u8) -> Walked
         gap: 0,
         strict: false,
     };
-    let mut x = 0;
-    while x < count {
-        let name = bounds[x as usize];
-        if name >= 1536 {
-            return Walked::Nowhere;
+    for name in &bounds[..count as usize] {
+        if *name >= 1536 {
+            return None;
         }
-        let leg = legs[(name / 512 * 256 + name % 256) as usize];
-        match further(leg, (name / 256 % 2) as u8, stand) {
-            Walked::Nowhere => return Walked::Nowhere,
-            Walked::To(next) => {
-                stand = next;
-            }
-        }
-        x += 1;
+        let leg = legs[(*name / 512 * 256 + *name % 256) as usize];
+        stand = further(leg, *name / 256 % 2 == 1, stand)?;
     }
-    Walked::To(stand)
+    Some(stand)
 }
 
 // One leg further, forwards or back.
-fn further(leg: u64, back: u8, stand: Stand) -> Walked
-    requires { (back < 2) × (stand.gap < range) }
-    ensures { FurtherSays leg back stand result }
+fn further(leg: u64, back: bool, stand: Stand) -> Option<Stand>
+    requires { stand.gap < range }
+    ensures { FurtherSays leg (cond back 1 0) stand result }
 {
-    if back == 1 {
-        if way(leg) == EITHER && to(leg) == stand.at {
-            return Walked::To(Stand {
+    if back {
+        if code(leg) == Way::Either as u8 && to(leg) == stand.at {
+            return Some(Stand {
                 at: from(leg),
                 gap: (stand.gap + (RANGE - gap(leg))) % RANGE,
                 strict: stand.strict,
             });
         }
-        return Walked::Nowhere;
+        return None;
     }
-    if way(leg) != 0 && from(leg) == stand.at {
-        return Walked::To(Stand {
+    if code(leg) != 0 && from(leg) == stand.at {
+        return Some(Stand {
             at: to(leg),
             gap: (stand.gap + gap(leg)) % RANGE,
-            strict: stand.strict | (way(leg) == STRICT),
+            strict: stand.strict | (code(leg) == Way::Strict as u8),
         });
     }
-    Walked::Nowhere
+    None
 }

@@ -1,8 +1,6 @@
 -- `legs::lay_entries` meets its contract: the legs of the entries before the counter are laid (proofs/Laid.antt).
 -- Assumes nothing.
-use Prim.Native.Nat.{◌-◌, ◌≤◌}
 use mathlib.Core.Path.{◌≡◌}
-use lib.ListN.{length}
 use Rattle.order.specs.First.{marked}
 use Rattle.sheet.specs.Decode.{sheet_of}
 use Rattle.sheet.specs.Sheet.{count_entries}
@@ -11,7 +9,4 @@ use Rattle.legs.proofs.lay_entries.Given as goal
 
 abbrev pub invariant-loop-e : goal.invariant-loop-e
 invariant-loop-e l =
-    (l.e ≤ l.count) × (l.count ≡ count_entries (sheet_of l.sheet)) × (length l.legs ≡ 768) × LaidEntries (sheet_of l.sheet) (marked l.listed) l.e l.initial.legs l.legs
-
-abbrev pub decreases-loop-e : goal.decreases-loop-e
-decreases-loop-e l = l.count - l.e
+    (l.count ≡ count_entries (sheet_of l.sheet)) × LaidEntries (sheet_of l.sheet) (marked l.listed) l.e l.initial.legs l.legs

@@ -1,8 +1,7 @@
 -- `legs::lay_terms` meets its contract: the legs of the terms before the counter are laid (proofs/Laid.antt).
 -- Assumes nothing.
-use Prim.Native.Nat.{◌-◌, ◌≤◌, ◌<◌}
+use Prim.Native.Nat.{◌<◌}
 use mathlib.Core.Path.{◌≡◌}
-use lib.ListN.{length}
 use Rattle.sheet.specs.Decode.{sheet_of}
 use Rattle.sheet.specs.Sheet.{count_terms}
 use Rattle.legs.specs.Legs.{LaidTerms}
@@ -10,7 +9,4 @@ use Rattle.legs.proofs.lay_terms.Given as goal
 
 abbrev pub invariant-loop-i : goal.invariant-loop-i
 invariant-loop-i l =
-    (l.i ≤ l.count) × (l.count < 256) × (l.count ≡ count_terms (sheet_of l.sheet)) × (length l.legs ≡ 768) × LaidTerms (sheet_of l.sheet) l.i l.initial.legs l.legs
-
-abbrev pub decreases-loop-i : goal.decreases-loop-i
-decreases-loop-i l = l.count - l.i
+    (l.count < 256) × (l.count ≡ count_terms (sheet_of l.sheet)) × LaidTerms (sheet_of l.sheet) l.i l.initial.legs l.legs
