@@ -10,7 +10,7 @@ ghost use Rattle.reasons.specs.Rules.{TieWithin};
 ghost use Rattle.links.specs.Links.{Rising};
 ghost use Rattle.probes.specs.Probes.{TiedSays, TiedAtSays, GoesTo, UnderAt};
 
-use legs::{RANGE, Stand, Walked};
+use legs::{RANGE, Stand};
 use links::Apartness;
 
 // The most that a tie's c may be, either way.
@@ -52,10 +52,10 @@ pub fn goes_to(legs: &[u64], zero: u8, bounds: &[u16], count: u8, i: u8, j: u8, 
     if zero as u16 + 1 < count as u16 {
         return false;
     }
-    match legs::walk(legs, bounds, count, i) {
-        Walked::Nowhere => false,
-        Walked::To(end) => (end.at == j) & (end.gap == gap) & !end.strict,
-    }
+    let Some(end) = legs::walk(legs, bounds, count, i) else {
+        return false;
+    };
+    (end.at == j) & (end.gap == gap) & !end.strict
 }
 
 // A total below zero, or zero with a strict bound.

@@ -1,9 +1,9 @@
 -- What is told of two terms: of the same kind and symbol, by their arguments; else that they aren't alike.
 -- Assumes nothing.
-use Prim.Native.Nat.{ℕ, ◌≤◌}
-use mathlib.Core.Path.{◌≡◌, refl, sym, ◌∙◌, subst}
-use mathlib.Core.Logic.{◌≢◌, ⊎_elim}
-use mathlib.Core.Bool.{Bool, true, false, not}
+use Prim.Native.Nat.{ℕ}
+use mathlib.Core.Path.{◌≡◌, refl, sym}
+use mathlib.Core.Logic.{◌≢◌}
+use mathlib.Core.Bool.{Bool, true, false}
 use mathlib.Core.List.{List}
 use native.Mathlib.Omega.{arith}
 use Rattle.sheet.specs.declared.Symbol.{Symbol}
@@ -11,7 +11,7 @@ use Rattle.sheet.specs.declared.TermNumber.{TermNumber}
 use Rattle.sheet.specs.declared.Term.{Term as Code-Term}
 use Rattle.sheet.specs.declared.Term.TheVariants.{Unknown, Number, Shift, Apply, Apply2}
 use Rattle.sheet.specs.Says.{term_says}
-use Rattle.sheet.specs.Sheet.{Term, unknown, number, shift, apply, apply2}
+use Rattle.sheet.specs.Sheet.{Term, apply, apply2}
 use Rattle.sheet.proofs.Below.{argument, arguments}
 use Rattle.meaning.specs.Meaning.{SameInput}
 use Rattle.meaning.specs.Meaning.SameInput.{one, two}

@@ -11,10 +11,10 @@ ghost use Rattle.legs.specs.Legs.{range, word_of, either_way, tie_place};
 ghost use Rattle.links.specs.Links.{Rising, Joined};
 ghost use Rattle.routes.specs.Routes.{LaidPath};
 ghost use Rattle.linked.specs.Known.{Known};
-ghost use Rattle.upheld.specs.declared.Ruling.TheVariants.{Wrong, Ties, Closes};
+ghost use Rattle.upheld.specs.declared.Ruling.TheVariants.{Wrong};
 ghost use Rattle.upheld.specs.Ruled.{Asked, TellsInput, TellsTie, TellsClosing, Ruled};
 
-use legs::{RANGE, Walked};
+use legs::RANGE;
 use sheet::{EntryNumber, Relation, Term, TermNumber};
 use stated::Step;
 
@@ -29,26 +29,20 @@ pub fn ruling_on(sheet: &[u8], listed: &[bool], legs: &[u64], links: &[u64], s: 
     requires { Asked sheet.now legs.now links.now × (length listed.now ≡ 256) }
     ensures { (steps : List RuleStep) (n : ℕ) → Known (sheet_of sheet.now) (marked listed.now) steps n legs.now links.now → Ruled (sheet_of sheet.now) (marked listed.now) steps n s result }
 {
-    let kind = s.kind;
-    match kind {
-        0 => ties(by_walks(sheet, legs, links, s)),
-        1 => ties(by_functions(sheet, legs, links, s)),
-        2 => closes(closing_walk(sheet, legs, links, s)),
-        3 => closes(closing_entry(sheet, listed, legs, links, s)),
+    match s.kind {
+        0 => ruled(by_walks(sheet, legs, links, s), Ruling::Ties),
+        1 => ruled(by_functions(sheet, legs, links, s), Ruling::Ties),
+        2 => ruled(closing_walk(sheet, legs, links, s), Ruling::Closes),
+        3 => ruled(closing_entry(sheet, listed, legs, links, s), Ruling::Closes),
         _ => Ruling::Wrong,
     }
 }
 
-fn ties(right: bool) -> Ruling
-    ensures { result ≡ cond right Ties Wrong }
+// What a right step does.
+fn ruled(right: bool, does: Ruling) -> Ruling
+    ensures { result ≡ cond right does Wrong }
 {
-    if right { Ruling::Ties } else { Ruling::Wrong }
-}
-
-fn closes(right: bool) -> Ruling
-    ensures { result ≡ cond right Closes Wrong }
-{
-    if right { Ruling::Closes } else { Ruling::Wrong }
+    if right { does } else { Ruling::Wrong }
 }
 
 // A tie from two walks of which none is strict: one from a to b that comes to c, one from b to a that comes to -c.
@@ -63,11 +57,9 @@ fn by_walks(sheet: &[u8], legs: &[u64], links: &[u64], s: Step) -> bool
     if probes::tied(links, s.a, s.b) {
         return false;
     }
-    let there = s.there;
-    let back = s.back;
     let c = s.c % RANGE;
-    probes::goes_to(legs, zero, &there, s.first, s.a, s.b, c)
-        && probes::goes_to(legs, zero, &back, s.second, s.b, s.a, (RANGE - c) % RANGE)
+    probes::goes_to(legs, zero, &s.there, s.first, s.a, s.b, c)
+        && probes::goes_to(legs, zero, &s.back, s.second, s.b, s.a, (RANGE - c) % RANGE)
 }
 
 // A tie, with c = 0, of two applications whose arguments are tied with gap 0.
@@ -91,19 +83,11 @@ fn same_input(links: &[u64], f: Term, g: Term) -> bool
     requires { (length links.now ≡ 256) × Rising links.now }
     ensures { TellsInput links.now (term_says f) (term_says g) result }
 {
-    match f {
-        Term::Apply(x, a) => match g {
-            Term::Apply(y, b) => x.0 == y.0 && probes::tied_at(links, a.0, b.0, 0),
-            _ => false,
-        },
-        Term::Apply2(x, a, b) => match g {
-            Term::Apply2(y, c, d) => {
-                x.0 == y.0
-                    && probes::tied_at(links, a.0, c.0, 0)
-                    && probes::tied_at(links, b.0, d.0, 0)
-            }
-            _ => false,
-        },
+    match (f, g) {
+        (Term::Apply(x, a), Term::Apply(y, b)) => x == y && probes::tied_at(links, a.0, b.0, 0),
+        (Term::Apply2(x, a, b), Term::Apply2(y, c, d)) => {
+            x == y && probes::tied_at(links, a.0, c.0, 0) && probes::tied_at(links, b.0, d.0, 0)
+        }
         _ => false,
     }
 }
@@ -120,11 +104,10 @@ fn closing_walk(sheet: &[u8], legs: &[u64], links: &[u64], s: Step) -> bool
     if zero as u16 + 1 < s.first as u16 {
         return false;
     }
-    let there = s.there;
-    match legs::walk(legs, &there, s.first, s.a) {
-        Walked::Nowhere => false,
-        Walked::To(end) => end.at == s.a && probes::under(end),
-    }
+    let Some(end) = legs::walk(legs, &s.there, s.first, s.a) else {
+        return false;
+    };
+    end.at == s.a && probes::under(end)
 }
 
 // A ≠ entry on terms that are tied at exactly its c.
@@ -139,8 +122,7 @@ fn closing_entry(sheet: &[u8], listed: &[bool], legs: &[u64], links: &[u64], s: 
         return false;
     }
     let entry = reading::entry_at(sheet, EntryNumber(s.a));
-    let relation = entry.relation;
-    match relation {
+    match entry.relation {
         Relation::Unequal => probes::tied_at(links, entry.a.0, entry.b.0, legs::gap_of(entry.c)),
         _ => false,
     }
