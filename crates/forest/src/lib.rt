@@ -14,10 +14,8 @@ pub fn start(labels: &mut [u8], n: usize)
     requires { (length labels.old ≡ cells) × (n ≤ stride) }
     ensures { Begun n labels.old labels.new }
 {
-    let mut i = 0;
-    while i < n {
-        labels[i] = i as u8;
-        i += 1;
+    for (i, label) in labels[..n].iter_mut().enumerate() {
+        *label = i as u8;
     }
 }
 
@@ -37,11 +35,9 @@ pub fn join(labels: &mut [u8], n: usize, t: usize, a: usize, b: usize)
     let row = t * STRIDE;
     let to = labels[row + a];
     let from = labels[row + b];
-    let mut i = 0;
-    while i < n {
+    for i in 0..n {
         let own = labels[row + i];
         labels[row + STRIDE + i] = if own == from { to } else { own };
-        i += 1;
     }
 }
 
@@ -73,9 +69,10 @@ fn joining(labels: &[u8], n: usize, t: usize, i: usize, j: usize) -> usize
     requires i_value { (cell labels.now t i ≡ cell labels.now t j) × (cell labels.now 0 i ≡ cell labels.now 0 j → ⊥) }
     ensures { Joining labels.now t i j result }
 {
-    let mut u = t;
-    while together(labels, u, i, j) {
-        u -= 1;
+    for u in (0..t).rev() {
+        if !together(labels, u, i, j) {
+            return u;
+        }
     }
-    u
+    unreachable!()
 }

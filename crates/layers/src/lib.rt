@@ -176,5 +176,5 @@ fn find(
             return e;
         }
     }
-    m
+    unreachable!()
 }

@@ -1,6 +1,6 @@
 -- `forest::mark` meets its contract: the path goes over the tie that joined the two points.
 -- Assumes nothing.
-use Prim.Native.Nat.{ℕ, suc, ◌≤◌, ◌<◌}
+use Prim.Native.Nat.{ℕ, suc, ◌<◌}
 use mathlib.Core.Path.{◌≡◌, sym, ap, ◌∙◌, subst}
 use mathlib.Core.Bool.{Bool, true, false}
 use mathlib.Core.List.Memᴰ.{head as here}
@@ -8,15 +8,14 @@ use mathlib.Core.List.Memᴰ.{not-nil}
 use mathlib.Core.List.Memᴰ.{tail as later}
 use mathlib.Core.List.{List, [], ◌∷◌, ◌++◌, Memᴰ as In}
 use mathlib.Core.Logic.{◌⊎◌, inl, inr, ⊎_elim}
-use lib.ListN.{length, set, length-set}
+use lib.ListN.{length, set}
 use lib.Seq.{get_or-set_same, get_or-set_other}
 use native.Mathlib.Omega.{arith}
 use native.Mathlib.Decide.{ℕ_discrete}
 use Rattle.order.specs.First.{marked}
-use Rattle.cells.specs.Cells.{stride, cells, cell}
+use Rattle.cells.specs.Cells.{cell}
 use Rattle.sketch.specs.Sketch.{left, right}
 use Rattle.forest.specs.Labels.{Labelled, Joining, PathMarked}
-use Rattle.forest.proofs.Rows.{one_label, two-labels}
 use Rattle.forest.proofs.Ways.{Way, in_both, in-first, in-second, way_on, way-itself, way-forth, way_back, sides}
 use Rattle.forest.proofs.+mark.Goals as goal
 
