@@ -1,6 +1,6 @@
 -- The table in a slice, rows of one length behind each other, and what each call leaves of it.
 -- Assumes nothing.
-use Rattle.std.specs.Prelude.{ℕ, ◌+◌, ◌*◌, ◌≤◌, ◌<◌, ◌≡◌, List, get_or}
+use Rattle.std.specs.Prelude.{ℕ, ◌+◌, ◌*◌, ◌≤◌, ◌<◌, ◌≡◌, List, length, get_or}
 use Rattle.sheet.specs.Limits.{max_terms}
 use Rattle.kind.specs.Code.{none, base, sum_of, tighter_of}
 
@@ -14,6 +14,10 @@ cells = stride * stride
 -- the gap from i to j
 abbrev pub cell : List ℕ → ℕ → ℕ → ℕ
 cell d i j = get_or d (i * stride + j) 0
+
+-- from some cell on there is no gap
+abbrev pub NoneThere : ℕ → List ℕ → Type 0
+NoneThere from row = (j : ℕ) → from ≤ j → j < length row → none ≤ get_or row j 0
 
 -- nothing but the first n cells of the first n rows is changed
 pub record Kept (n : ℕ) (old new : List ℕ) : Type 0 where

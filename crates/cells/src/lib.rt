@@ -3,9 +3,9 @@
 // they are.
 #![tactic(auto)]
 
-ghost use Rattle.std.specs.Prelude.{◌≡◌, ℕ, ◌+◌, ◌≤◌, ◌<◌, length, get_or};
+ghost use Rattle.std.specs.Prelude.{◌≡◌, ℕ, ◌+◌, ◌≤◌, ◌<◌, length, get_or, MatchOption};
 ghost use Rattle.kind.specs.Code.{none, sum_of, Addable};
-ghost use Rattle.cells.specs.Cells.{stride, cells, cell, RowStarted, RowRelaxed};
+ghost use Rattle.cells.specs.Cells.{stride, cells, cell, NoneThere, RowStarted, RowRelaxed};
 
 use gap::Gap;
 
@@ -28,11 +28,7 @@ pub fn start_row(d: &mut [u32], i: usize, n: usize)
     ensures { RowStarted d.old d.new i n }
 {
     let at = i * STRIDE;
-    let mut j = 0;
-    while j < n {
-        d[at + j] = gap::NONE;
-        j += 1;
-    }
+    d[at..at + n].fill(gap::NONE);
     d[at + i] = gap::ZERO;
 }
 
@@ -43,11 +39,7 @@ pub fn row_of(d: &[u32], b: usize) -> [u32; STRIDE]
 {
     let mut row = [0u32; STRIDE];
     let at = b * STRIDE;
-    let mut j = 0;
-    while j < STRIDE {
-        row[j] = d[at + j];
-        j += 1;
-    }
+    row.copy_from_slice(&d[at..at + STRIDE]);
     row
 }
 
@@ -56,11 +48,7 @@ pub fn first_there(row: &[u32; STRIDE], n: usize) -> usize
     requires { n ≤ stride }
     ensures { (result ≤ n) × ((j : ℕ) → j < result → none ≤ get_or row.now j 0) }
 {
-    let mut k = 0;
-    while k < n && gap::NONE <= row[k] {
-        k += 1;
-    }
-    k
+    row[..n].iter().position(|g| *g < gap::NONE).unwrap_or(n)
 }
 
 // One past the last, or from where there is none from there on.
@@ -68,11 +56,17 @@ pub fn past_there(row: &[u32; STRIDE], from: usize, n: usize) -> usize
     requires { (from ≤ n) × (n ≤ stride) }
     ensures { (from ≤ result) × (result ≤ n) × ((j : ℕ) → result ≤ j → j < n → none ≤ get_or row.now j 0) }
 {
-    let mut k = n;
-    while from < k && gap::NONE <= row[k - 1] {
-        k -= 1;
+    match last_there(&row[from..n]) {
+        Some(last) => from + last + 1,
+        None => from,
     }
-    k
+}
+
+// The last of some cells in which there is a gap.
+fn last_there(cells: &[u32]) -> Option<usize>
+    ensures { MatchOption result (NoneThere 0 cells.now) (λ last. (last < length cells.now) × NoneThere (last + 1) cells.now) }
+{
+    cells.iter().rposition(|g| *g < gap::NONE)
 }
 
 // The cells of row i between two columns become the tighter of what they are and the sum of via and the row's cell.
@@ -92,12 +86,10 @@ pub fn relax_row(
     ensures { RowRelaxed d.old d.new row.now i via.0 from to }
 {
     let at = i * STRIDE;
-    if via.0 < d[at + b] {
-        let mut j = from;
-        while j < to {
+    if via < Gap(d[at + b]) {
+        for j in from..to {
             let k = at + j;
             d[k] = Gap(d[k]).tighter(via.sum(Gap(row[j]))).0;
-            j += 1;
         }
     }
 }

@@ -1,26 +1,24 @@
--- `cells::past_there` meets its contract: the row has no gap from the counter on.
+-- `cells::past_there` meets its contract: the cells between the two columns are those of the row.
 -- Assumes nothing.
-use Prim.Native.Nat.{ℕ, ◌-◌, ◌≤◌, ◌<◌}
-use mathlib.Core.Path.{◌≡◌}
-use mathlib.Core.Logic.{⊎_elim}
-use native.Mathlib.Omega.{arith}
-use borrow.Author.Tests.{leb-true}
-use Rattle.whole.proofs.Order.{order}
+use Rattle.std.proofs.Common.{◌≡◌, ℕ, ◌+◌, ◌-◌, ◌<◌, ◌≤◌, List, length, get_or, take, drop, length-take, length-drop, get_or-take, get_or-drop, ◌∙◌, arith}
+use Rattle.kind.specs.Code.{none}
+use Rattle.cells.specs.Cells.{NoneThere}
 use Rattle.cells.proofs.past_there.Goals as goal
 
-pub loop-k-init : goal.loop-k-init
-loop-k-init c = (omega arith, omega arith, λ j h l. absurd (omega arith))
+module _ (row : List ℕ) (from n : ℕ) (l : from ≤ n) (m : n ≤ length row) where
+  size : length (take (n - from) (drop from row)) ≡ n - from
+  size = simp (length-take, length-drop) (omega arith)
 
-pub loop-k-preserved : goal.loop-k-preserved
-loop-k-preserved c =
-    let last : (j : ℕ) → j < c.loop-k.k → c.loop-k.k - 1 ≤ j → j ≡ c.loop-k.k - 1 = λ j l h. omega arith in (
-      omega arith,
-      omega arith,
-      λ j h l. ⊎_elim (λ p. c.loop-k.invariant.2 j p l) (λ p. rw (last j p h) (omega (arith, leb-true))) (order c.loop-k.k j),
-    )
+  part : (last : ℕ) → NoneThere last (take (n - from) (drop from row)) → (j : ℕ) → from + last ≤ j → j < n → none ≤ get_or row j 0
+  part last N j h k =
+      let e : from + (j - from) ≡ j = omega arith in
+      let at = get_or-take (n - from) (drop from row) (j - from) 0 (omega arith) ∙ get_or-drop from row (j - from) 0 in
+      omega (arith, rw e at at, N (j - from) (omega arith) (omega (arith, size)))
 
-pub returns-else-row-k-ge-NONE : goal.returns-else-row-k-ge-NONE
-returns-else-row-k-ge-NONE c = c.loop-k.invariant
+pub returns-in-Some : goal.returns-in-Some
+returns-in-Some c =
+    let l : c.in-Some.last + 1 ≤ c.args.n - c.args.from = omega (arith, c.in-Some.ensures.0, size c.args.row.now c.args.from c.args.n (omega arith) (omega arith)) in
+    (omega arith, omega arith, λ j h. part c.args.row.now c.args.from c.args.n (omega arith) (omega arith) (c.in-Some.last + 1) c.in-Some.ensures.1 j (omega arith))
 
-pub returns-after-loop-k : goal.returns-after-loop-k
-returns-after-loop-k c = c.loop-k.invariant
+pub returns-in-None : goal.returns-in-None
+returns-in-None c = (omega arith, omega arith, λ j h. part c.args.row.now c.args.from c.args.n (omega arith) (omega arith) 0 c.in-None.ensures j (omega arith))

@@ -1,11 +1,11 @@
 -- `cells::relax_row` meets its contract: the cells before the counter are relaxed and no other is touched, or nothing would change.
 -- Assumes nothing.
-use Prim.Native.Nat.{ℕ, ◌+◌, ◌*◌, ◌-◌, ◌≤◌, ◌<◌}
+use Prim.Native.Nat.{ℕ, ◌+◌, ◌*◌, ◌≤◌, ◌<◌}
 use mathlib.Core.Path.{◌≡◌, refl, ◌∙◌}
 use mathlib.Core.List.{List}
 use lib.Seq.{get_or-set_same, get_or-set_other}
-use lib.ListN.{length, get_or, set, length-set}
-use native.Mathlib.Omega.{arith}
+use lib.ListN.{length, get_or, set}
+use Rattle.std.proofs.Common.{arith, rules}
 use borrow.Author.Count.{below_more}
 use Rattle.kind.specs.Code.{sum_of, tighter_of}
 use Rattle.cells.specs.Cells.{stride, cell, RowRelaxed}
@@ -31,26 +31,21 @@ skipped : (d row : List ℕ) (i via from to : ℕ) → ((j : ℕ) → from ≤ j
 skipped d row i via from to h = record { at = λ j k l. omega (arith, h j k l); before = λ k l. refl; after = λ k l. refl }
 
 pub loop-j-init : goal.loop-j-init
-loop-j-init c = (refl, omega arith, omega arith, refl, none_yet _ _ _ _ _)
+loop-j-init c = none_yet _ _ _ _ _
 
 pub sum-requires : goal.sum-requires
-sum-requires c =
-    c.requires.by_index _ (omega arith) (omega arith)
+sum-requires c = c.requires.by_index _ (omega arith) (omega arith)
 
 pub loop-j-preserved : goal.loop-j-preserved
-loop-j-preserved c = (
-  refl,
-  omega arith,
-  omega arith,
-  simp length-set (omega arith),
-  one_more _ _ _ _ _ _ _ _ _ c.loop-j.invariant.4 (omega arith) (omega arith) c.sum.ensures.code c.tighter.ensures.code,
-)
+loop-j-preserved c =
+    one_more _ _ _ _ _ _ _ _ _ c.loop-j.invariant (omega arith) (omega arith) c.sum.ensures.code c.tighter.ensures.code
 
 pub returns-after-loop-j : goal.returns-after-loop-j
 returns-after-loop-j c =
     let end : c.loop-j.j ≡ c.args.to = omega arith in
-    rw end at c.loop-j.invariant.4
+    rw end at c.loop-j.invariant
 
-pub returns-else-via-d : goal.returns-else-via-d
-returns-else-via-d c =
-    skipped _ _ c.args.i c.args.via.0 _ _ (c.requires.j_bound (omega arith))
+pub returns-else-lt : goal.returns-else-lt
+returns-else-lt c =
+    let there : cell c.args.d.now c.args.i c.args.b ≤ c.args.via.0 = search rules in
+    skipped _ _ c.args.i c.args.via.0 _ _ (c.requires.j_bound there)
