@@ -11,6 +11,7 @@ use lib.Pow.{shr_le}
 use lib.Count.{count_trailing_zeros, under}
 use Rattle.sets.specs.declared.Ties.{Ties}
 use Rattle.sets.specs.Sets.{bit, has, BitFrom, FirstFrom}
+use Rattle.std.specs.Prelude.{Some, None}
 use Rattle.sets.proofs.Bits.{shr-bit, low_bit, next_bit, zero_bit, small-bit, has-low, has-high}
 
 record Lowest (w z : ℕ) : Type 0 where
@@ -36,13 +37,10 @@ lowest (suc n) w p h =
 
 -- ---- the first bit of a word from a bit on
 
-pub bit-none : {w f : ℕ} → f < 64 → w / 2 ^ f ≡ 0 → BitFrom w f 64
-bit-none {w} {f} h e = record { most = omega arith; from_on = omega arith; none = none; here = λ l. absurd (omega arith) }
-  where
-    none : (k : ℕ) → f ≤ k → k < 64 → bit w k ≡ false
-    none k l m =
-        let s : k ≡ f + (k - f) = omega arith in
-        ap (bit w) s ∙ sym (shr-bit w f (k - f)) ∙ ap (λ (x : ℕ). bit x (k - f)) e ∙ zero_bit (k - f)
+pub bit-none : (w f : ℕ) → w / 2 ^ f ≡ 0 → BitFrom w f None
+bit-none w f e k l m =
+    let s : k ≡ f + (k - f) = omega arith in
+    ap (bit w) s ∙ sym (shr-bit w f (k - f)) ∙ ap (λ (x : ℕ). bit x (k - f)) e ∙ zero_bit (k - f)
 
 module _ {w : ℕ} (f : ℕ) (h : w < 2 ^ 64) (p : 0 < w / 2 ^ f) where
   abbrev z : ℕ
@@ -61,8 +59,8 @@ module _ {w : ℕ} (f : ℕ) (h : w < 2 ^ 64) (p : 0 < w / 2 ^ f) where
       go (yes l) = l
       go (no n) = absurd (true≢false (sym here-is ∙ small-bit 64 (f + z) h (omega arith)))
 
-  pub bit-some : BitFrom w f (f + z)
-  bit-some = record { most = omega (arith, place-small); from_on = omega arith; none = none; here = λ l. here-is }
+  pub bit-some : BitFrom w f (Some (f + z))
+  bit-some = record { below = place-small; from_on = omega arith; none = none; here = here-is }
     where
       none : (k : ℕ) → f ≤ k → k < f + z → bit w k ≡ false
       none k l m =
@@ -71,40 +69,50 @@ module _ {w : ℕ} (f : ℕ) (h : w < 2 ^ 64) (p : 0 < w / 2 ^ f) where
 
 -- ---- the first tie of a set from a tie on
 
-module _ {a : Ties} {from : ℕ} where
-  pub first-low : {r : ℕ} → BitFrom a.low from r → r < 64 → FirstFrom a from r
-  first-low B h =
+module _ (a : Ties) (from : ℕ) where
+  -- it is in the low word
+  pub first-low : {r : ℕ} → BitFrom a.low from (Some r) → FirstFrom a from (Some r)
+  first-low B =
+      let l = B.below in
       record {
-        most = omega arith;
+        below = omega arith;
         from_on = B.from_on;
-        none = λ t k l. has-low a (omega arith) ∙ B.none t k l;
-        here = λ l. has-low a h ∙ B.here h;
+        none = λ t k m. has-low a (omega arith) ∙ B.none t k m;
+        here = has-low a l ∙ B.here;
       }
 
-  pub first-high : {r : ℕ} → 64 ≤ from → BitFrom a.high (from - 64) r → FirstFrom a from (64 + r)
+  -- in the high word
+  pub first-high : {r : ℕ} → 64 ≤ from → BitFrom a.high (from - 64) (Some r) → FirstFrom a from (Some (64 + r))
   first-high {r} h B =
-      let m = B.most in
+      let l = B.below in
       record {
-        most = omega arith;
+        below = omega arith;
         from_on = omega (arith, B.from_on);
-        none = λ t k l. has-high a (omega arith) (omega arith) ∙ B.none (t % 64) (omega arith) (omega arith);
-        here = λ l. has-high a (omega arith) l ∙ same r (omega arith) ∙ B.here (omega arith);
+        none = λ t k m. has-high a (omega arith) (omega arith) ∙ B.none (t % 64) (omega arith) (omega arith);
+        here = has-high a (omega arith) (omega arith) ∙ same r l ∙ B.here;
       }
     where
       same : (r : ℕ) → r < 64 → bit a.high ((64 + r) % 64) ≡ bit a.high r
       same r l = let e : (64 + r) % 64 ≡ r = omega arith in ap (bit a.high) e
 
-  pub first-none : 128 ≤ from → from ≤ 128 → FirstFrom a from 128
-  first-none h k = record { most = omega arith; from_on = k; none = λ t l m. absurd (omega arith); here = λ l. absurd (omega arith) }
+  -- or nowhere
+  pub first-none : 64 ≤ from → BitFrom a.high (from - 64) None → FirstFrom a from None
+  first-none h B t k l = has-high a (omega arith) l ∙ B (t % 64) (omega arith) (omega arith)
 
--- none in the low word
-pub first-both : {a : Ties} {from r s : ℕ} → from < 64 → BitFrom a.low from r → 64 ≤ r → BitFrom a.high 0 s → FirstFrom a from (64 + s)
-first-both {a} {from} {r} {s} f B h C =
-    record { most = H.most; from_on = omega (arith, H.from_on); none = λ t k l. go t k l (dec_lt t 64); here = H.here }
-  where
-    H : FirstFrom a 64 (64 + s)
-    H = first-high (omega arith) C
+-- with none in the low word it is what the high one has
+module _ (a : Ties) (from : ℕ) (f : from < 64) (B : BitFrom a.low from None) where
+  pub low-passed : {r : ℕ} → BitFrom a.high 0 (Some r) → FirstFrom a from (Some (64 + r))
+  low-passed {r} C =
+      let H : FirstFrom a 64 (Some (64 + r)) = first-high a 64 (omega arith) C in
+      record { below = H.below; from_on = omega arith; none = λ t k l. go H t k l (dec_lt t 64); here = H.here }
+    where
+      go : FirstFrom a 64 (Some (64 + r)) → (t : ℕ) → from ≤ t → t < 64 + r → Dec (t < 64) → has a t ≡ false
+      go H t k l (yes m) = has-low a m ∙ B t k m
+      go H t k l (no n) = H.none t (omega arith) l
 
-    go : (t : ℕ) → from ≤ t → t < 64 + s → Dec (t < 64) → has a t ≡ false
-    go t k l (yes m) = has-low a m ∙ B.none t k (omega arith)
-    go t k l (no n) = H.none t (omega arith) l
+  pub both-passed : BitFrom a.high 0 None → FirstFrom a from None
+  both-passed C t k l = go (dec_lt t 64)
+    where
+      go : Dec (t < 64) → has a t ≡ false
+      go (yes m) = has-low a m ∙ B t k m
+      go (no n) = first-none a 64 (omega arith) C t (omega arith) l

@@ -1,6 +1,6 @@
 -- Which ties a set has, and sets in a row.
 -- Assumes nothing.
-use Rattle.std.specs.Prelude.{ℕ, ◌+◌, ◌*◌, ◌/◌, ◌%◌, ◌^◌, ◌≤◌, ◌<◌, ◌≡◌, Bool, true, false, cond, List, eqb, ltb, get_or, set}
+use Rattle.std.specs.Prelude.{ℕ, ◌+◌, ◌*◌, ◌/◌, ◌%◌, ◌^◌, ◌≤◌, ◌<◌, ◌≡◌, Bool, true, false, cond, Option, Some, None, List, eqb, ltb, get_or, set}
 use Rattle.sets.specs.declared.Ties.{Ties}
 
 unfoldable pub bit : (word k : ℕ) → Bool
@@ -10,19 +10,24 @@ bit word k = eqb (word / 2 ^ k % 2) 1
 unfoldable pub has : Ties → ℕ → Bool
 has a t = cond (ltb t 64) (bit a.low t) (cond (ltb t 128) (bit a.high (t % 64)) false)
 
--- the first bit of a word that isn't below `from`; 64 if there is none
-pub record BitFrom (word from r : ℕ) : Type 0 where
-  pub most : r ≤ 64
+-- r is the first number below `most`, from `from` on, that the test holds of
+pub record First (holds : ℕ → Bool) (most from r : ℕ) : Type 0 where
+  pub below : r < most
   pub from_on : from ≤ r
-  pub none : (k : ℕ) → from ≤ k → k < r → bit word k ≡ false
-  pub here : r < 64 → bit word r ≡ true
+  pub none : (k : ℕ) → from ≤ k → k < r → holds k ≡ false
+  pub here : holds r ≡ true
 
--- the first tie of a set that isn't below `from`; 128 if there is none
-pub record FirstFrom (a : Ties) (from r : ℕ) : Type 0 where
-  pub most : r ≤ 128
-  pub from_on : from ≤ r
-  pub none : (t : ℕ) → from ≤ t → t < r → has a t ≡ false
-  pub here : r < 128 → has a r ≡ true
+abbrev pub FirstOf : (holds : ℕ → Bool) (most from : ℕ) → Option ℕ → Type 0
+FirstOf holds most from (Some r) = First holds most from r
+FirstOf holds most from None = (k : ℕ) → from ≤ k → k < most → holds k ≡ false
+
+-- the first bit of a word that isn't below `from`, if there is one
+abbrev pub BitFrom : (word from : ℕ) → Option ℕ → Type 0
+BitFrom word from r = FirstOf (bit word) 64 from r
+
+-- the first tie of a set that isn't below `from`, if there is one
+abbrev pub FirstFrom : (a : Ties) (from : ℕ) → Option ℕ → Type 0
+FirstFrom a from r = FirstOf (has a) 128 from r
 
 -- a row has two words for each set
 abbrev pub stored : List ℕ → ℕ → Ties

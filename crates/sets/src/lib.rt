@@ -67,35 +67,33 @@ pub fn without(a: Ties, b: Ties) -> Ties
     }
 }
 
-// The first tie of a set that isn't below `from`; 128 if there is none.
-pub fn first(a: Ties, from: u8) -> u8
+// The first tie of a set that isn't below `from`, if there is one.
+pub fn first(a: Ties, from: u8) -> Option<u8>
     requires { from ≤ 128 }
     ensures { FirstFrom a from result }
 {
     if from < 64 {
-        let t = first_bit(a.low, from);
-        if t < 64 {
-            return t;
+        if let Some(t) = first_bit(a.low, from) {
+            return Some(t);
         }
-        return 64 + first_bit(a.high, 0);
+        return Some(64 + first_bit(a.high, 0)?);
     }
     if from < MOST {
-        64 + first_bit(a.high, from - 64)
+        Some(64 + first_bit(a.high, from - 64)?)
     } else {
-        MOST
+        None
     }
 }
 
-// 64 if there is none.
-fn first_bit(word: u64, from: u8) -> u8
+fn first_bit(word: u64, from: u8) -> Option<u8>
     requires { from < 64 }
     ensures { BitFrom word from result }
 {
     let rest = word >> from;
     if rest == 0 {
-        64
+        None
     } else {
-        from + u64::trailing_zeros(rest) as u8
+        Some(from + rest.trailing_zeros() as u8)
     }
 }
 
