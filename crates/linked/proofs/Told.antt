@@ -4,13 +4,12 @@ use Prim.Native.Nat.{ℕ, ◌+◌, ◌-◌, ◌%◌, ◌≤◌, ◌<◌}
 use mathlib.Core.Path.{sym, ◌∙◌}
 use mathlib.Core.List.{List}
 use native.Mathlib.Omega.{arith}
+use Rattle.std.specs.Prelude.{Option, Some, None}
 use Rattle.order.specs.First.{Set}
 use Rattle.sheet.specs.Sheet.{Sheet, count_terms}
 use Rattle.reasons.specs.Step.{Step, step_at}
 use Rattle.reasons.specs.Rules.{TieRight}
 use Rattle.legs.specs.Legs.{range}
-use Rattle.links.specs.declared.Apartness.{Apartness}
-use Rattle.links.specs.declared.Apartness.TheVariants.{Apart as TwoGroups, Tied as OneGroup}
 use Rattle.links.specs.Links.{Climbs, Between}
 use Rattle.links.proofs.Climbing.{gap-small as climbs-small, climbs-one}
 use Rattle.linked.specs.Known.{Kin, OneGap, BetweenTold}
@@ -35,8 +34,8 @@ module _ {s : Sheet} {listed : Set} {steps : List Step} {n : ℕ} {links : List 
       let l = path-short r T in
       record { c = c; path = p; tied = T; gap_is = differs-gap c (omega arith) (omega arith) (omega arith) e; up = omega arith; down = omega arith }
 
-  pub kin-between : {i j : ℕ} → i ≤ count_terms s → j ≤ count_terms s → (r : Apartness) → Between links i j r → BetweenTold steps n i j r
-  kin-between {i} {j} a b TwoGroups (x, g, y, h, C, D, ne) = λ c p T.
+  pub kin-between : {i j : ℕ} → i ≤ count_terms s → j ≤ count_terms s → (r : Option ℕ) → Between links i j r → BetweenTold steps n i j r
+  kin-between {i} {j} a b None (x, g, y, h, C, D, ne) = λ c p T.
       let M = common K n (omega arith) i j c p a T in
       ne (sym (climbs-one M.left (settled K a C)).0 ∙ (climbs-one M.right (settled K b D)).0)
-  kin-between a b (OneGroup c) (x, g, h, C, D, e) = rw e (one-gap a b (settled K a C) (settled K b D))
+  kin-between a b (Some c) (x, g, h, C, D, e) = rw e (one-gap a b (settled K a C) (settled K b D))

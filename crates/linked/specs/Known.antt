@@ -1,14 +1,12 @@
 -- What the links of points say of the first n ties of a reason, and what is known before step n is looked at.
 -- Assumes nothing.
-use Rattle.std.specs.Prelude.{ℕ, ◌+◌, ◌*◌, ◌^◌, ◌≤◌, ◌<◌, ◌≡◌, List, length, get_or, ℤ, neg_ℤ, ◌+ℤ◌}
+use Rattle.std.specs.Prelude.{ℕ, ◌+◌, ◌*◌, ◌^◌, ◌≤◌, ◌<◌, ◌≡◌, Option, Some, None, List, length, get_or, ℤ, neg_ℤ, ◌+ℤ◌}
 use Rattle.whole.specs.Whole.{plus, minus}
 use Rattle.order.specs.First.{Set}
 use Rattle.sheet.specs.Sheet.{Sheet, count_terms}
 use Rattle.reasons.specs.Step.{Step, step_at}
 use Rattle.reasons.specs.Rules.{Ties, Tied, Apart, TieRight}
 use Rattle.legs.specs.Legs.{range, gap_for}
-use Rattle.links.specs.declared.Apartness.{Apartness}
-use Rattle.links.specs.declared.Apartness.TheVariants.{Apart as TwoGroups, Tied as OneGroup}
 use Rattle.links.specs.Links.{root, up_of, gap_of, by, Rising}
 use Rattle.strides.specs.Trodden.{Trodden}
 
@@ -77,6 +75,6 @@ pub record OneGap (steps : List Step) (n i j g : ℕ) : Type 0 where
   pub up : plus c < 2 ^ 39
   pub down : minus c < 2 ^ 39
 
-abbrev pub BetweenTold : List Step → (n i j : ℕ) → Apartness → Type 0
-BetweenTold steps n i j TwoGroups = Apart steps n i j
-BetweenTold steps n i j (OneGroup g) = OneGap steps n i j g
+abbrev pub BetweenTold : List Step → (n i j : ℕ) → Option ℕ → Type 0
+BetweenTold steps n i j None = Apart steps n i j
+BetweenTold steps n i j (Some g) = OneGap steps n i j g

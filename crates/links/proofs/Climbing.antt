@@ -1,13 +1,13 @@
 -- A climb is one for its point, and its gap is within the range. A climb on its way: what is above the point that it has come to is
 -- above the point that it began at.
 -- Assumes nothing.
-use Prim.Native.Nat.{ℕ, ◌+◌, ◌-◌, ◌%◌, ◌<◌}
+use Prim.Native.Nat.{ℕ, ◌+◌, ◌%◌, ◌<◌}
 use mathlib.Core.Path.{◌≡◌, refl, sym, ap, subst, ◌∙◌}
 use mathlib.Core.List.{List}
 use lib.ListN.{get_or}
 use native.Mathlib.Omega.{arith}
 use Rattle.legs.specs.Legs.{range}
-use Rattle.links.specs.Links.{root, by_of, up_of, gap_of, by, gap, Rising, Climbs, stays, rises}
+use Rattle.links.specs.Links.{root, by_of, up_of, gap_of, by, gap, Climbs, stays, rises}
 
 pub record Climbing (links : List ℕ) (i top sum link : ℕ) : Type 0 where
   pub place : top < 256
@@ -36,8 +36,8 @@ module _ {links : List ℕ} where
     by-is : by_of link ≡ by links top
     by-is = ap by_of C.link-is
 
-    pub climbs-on : {b g u : ℕ} → b ≡ by_of link → b < root → g ≡ gap_of link → u ≡ up_of link → Climbing links i u ((sum + g) % range) (get_or links u 0)
-    climbs-on {g = g} {u = u} p h q r = record { place = omega arith; link-is = refl; small = omega arith; on = on }
+    pub climbs-on : {g u : ℕ} → by_of link < root → g ≡ gap_of link → u ≡ up_of link → Climbing links i u ((sum + g) % range) (get_or links u 0)
+    climbs-on {g} {u} h q r = record { place = omega arith; link-is = refl; small = omega arith; on = on }
       where
         regroup : (s a k : ℕ) → (s + (a + k) % range) % range ≡ ((s + a) % range + k) % range
         regroup s a k = omega arith
@@ -50,13 +50,6 @@ module _ {links : List ℕ} where
             let D' = subst (λ (v : ℕ). Climbs links root v x k) (r ∙ ap up_of C.link-is) D in
             subst (λ (v : ℕ). Climbs links root i x v) (ap (λ (a : ℕ). (sum + (a + k) % range) % range) gap_is ∙ regroup sum g k)
             (C.on x _ (rises (omega (arith, by-is)) D'))
-
-    pub climbs-higher : {b u : ℕ} → Rising links → b ≡ by_of link → b < root → u ≡ up_of link → root - by_of (get_or links u 0) < root - by_of link
-    climbs-higher R p h r =
-        let e = by-is in
-        let f = ap (by links) (r ∙ ap up_of C.link-is) in
-        let l = R.later top C.place (omega arith) in
-        omega arith
 
     pub climbs-end : by_of link ≡ root → Climbs links root i top sum
     climbs-end h =

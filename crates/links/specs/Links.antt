@@ -1,9 +1,7 @@
 -- Links as numbers, and climbs along them.
 -- Assumes nothing.
-use Rattle.std.specs.Prelude.{ℕ, ◌+◌, ◌-◌, ◌*◌, ◌/◌, ◌%◌, ◌≤◌, ◌<◌, ◌≡◌, ◌≢◌, List, get_or, set}
+use Rattle.std.specs.Prelude.{ℕ, ◌+◌, ◌-◌, ◌*◌, ◌/◌, ◌%◌, ◌≤◌, ◌<◌, ◌≡◌, ◌≢◌, Option, Some, None, List, get_or, set}
 use Rattle.legs.specs.Legs.{range}
-use Rattle.links.specs.declared.Apartness.{Apartness}
-use Rattle.links.specs.declared.Apartness.TheVariants.{Apart, Tied}
 
 -- a link: the tie that it is by, the point above, and the gap to it
 abbrev pub link_of : (by up gap : ℕ) → ℕ
@@ -44,9 +42,9 @@ pub data Climbs (links : List ℕ) (t : ℕ) : (i j gap : ℕ) → Type 0 where
   rises : {i j g : ℕ} → by links i < t → Climbs links t (up links i) j g → Climbs links t i j ((gap links i + g) % range)
 
 -- whether two points have one topmost point, and their gap
-abbrev pub Between : (links : List ℕ) (i j : ℕ) → Apartness → Type 0
-Between links i j Apart = (x g y h : ℕ) × Climbs links root i x g × Climbs links root j y h × (x ≢ y)
-Between links i j (Tied c) = (x g h : ℕ) × Climbs links root i x g × Climbs links root j x h × (c ≡ (g + (range - h)) % range)
+abbrev pub Between : (links : List ℕ) (i j : ℕ) → Option ℕ → Type 0
+Between links i j None = (x g y h : ℕ) × Climbs links root i x g × Climbs links root j y h × (x ≢ y)
+Between links i j (Some c) = (x g h : ℕ) × Climbs links root i x g × Climbs links root j x h × (c ≡ (g + (range - h)) % range)
 
 -- one of the topmost points of a and b goes below the other, by tie t, which says a = b + c
 pub data Joined (old new : List ℕ) (t a b c : ℕ) : Type 0 where

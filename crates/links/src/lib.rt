@@ -3,14 +3,14 @@
 // It rests on the range of gaps alone, and promises what its numbers say by themselves; what they say of ties is linked's.
 #![tactic(auto)]
 
-ghost use Rattle.std.specs.Prelude.{◌≡◌, ◌+◌, ◌%◌, ◌<◌, length, get_or, set};
+ghost use Rattle.std.specs.Prelude.{◌≡◌, ◌+◌, ◌%◌, ◌<◌, length, get_or, set, MatchOption};
 ghost use Rattle.legs.specs.Legs.{range};
 ghost use Rattle.links.specs.Links.{link_of, by_of, up_of, gap_of, root, top_of, Rising, Climbs, Between, Joined};
 
 use legs::RANGE;
 
-// What a link by no tie is: that of a topmost point, with the size of its group above it.
-pub const NONE: u8 = 255;
+// What stands in a link that is by no tie: that of a topmost point, with the size of its group above it.
+const NONE: u8 = 255;
 
 const BY: u64 = 281474976710656;
 
@@ -26,12 +26,6 @@ pub struct Found {
     pub gap: u64,
 }
 
-#[derive(Clone, Copy)]
-pub enum Apartness {
-    Apart,
-    Tied(u64),
-}
-
 fn word(by: u8, up: u8, gap: u64) -> u64
     requires { gap < range }
     ensures { result ≡ link_of by up gap }
@@ -39,10 +33,12 @@ fn word(by: u8, up: u8, gap: u64) -> u64
     (by as u64 * 256 + up as u64) * RANGE + gap
 }
 
-pub fn by(link: u64) -> u8
-    ensures { result ≡ by_of link }
+// The tie that a link is by, if it is by any.
+pub fn by(link: u64) -> Option<u8>
+    ensures { MatchOption result (by_of link ≡ root) (λ t. (t ≡ by_of link) × (t < root)) }
 {
-    (link / BY % 256) as u8
+    let t = (link / BY % 256) as u8;
+    if t == NONE { None } else { Some(t) }
 }
 
 pub fn up(link: u64) -> u8
@@ -64,25 +60,26 @@ pub fn find(links: &[u64], i: u8) -> Found
     let mut top = i;
     let mut sum = 0;
     let mut link = links[i as usize];
-    while by(link) != NONE {
+    // A while: how far it goes is not known before it runs.
+    while by(link).is_some() {
         sum = (sum + gap(link)) % RANGE;
         top = up(link);
         link = links[top as usize];
     }
-    Found { top: top, gap: sum }
+    Found { top, gap: sum }
 }
 
-// Whether two points are of one group, and their gap.
-pub fn between(links: &[u64], i: u8, j: u8) -> Apartness
+// The gap of two points of one group; points of two groups have none.
+pub fn between(links: &[u64], i: u8, j: u8) -> Option<u64>
     requires { (length links.now ≡ 256) × Rising links.now }
     ensures { Between links.now i j result }
 {
     let x = find(links, i);
     let y = find(links, j);
     if x.top == y.top {
-        Apartness::Tied((x.gap + (RANGE - y.gap)) % RANGE)
+        Some((x.gap + (RANGE - y.gap)) % RANGE)
     } else {
-        Apartness::Apart
+        None
     }
 }
 

@@ -5,6 +5,7 @@ use mathlib.Core.Path.{◌≡◌, refl, sym, ◌∙◌, ap, subst}
 use mathlib.Core.Bool.{Bool, true, false, not, ◌&&◌, false≢true}
 use mathlib.Core.List.{List}
 use lib.Dec.{eqb}
+use Rattle.std.specs.Prelude.{Some}
 use lib.ListN.{take}
 use Rattle.meaning.specs.Decides.{Decides}
 use Rattle.meaning.proofs.Decides.{told}
@@ -12,17 +13,16 @@ use Rattle.legs.specs.Legs.{start_at, Goes}
 use Rattle.legs.specs.declared.Stand.{Stand}
 use Rattle.legs.proofs.Walks.{goes_one}
 use Rattle.links.specs.Links.{Between}
-use Rattle.links.specs.declared.Apartness.TheVariants.{Tied}
 use Rattle.probes.specs.Probes.{TiedAtSays, GoesTo}
 use Rattle.probes.specs.Probes.TiedAtSays.{at-it, at-another}
 use Rattle.probes.proofs.Tests.{same, flag, none, both}
 
 -- the answer that compares a gap
-pub at_gap : (links : List ℕ) (i j gap other : ℕ) → Between links i j (Tied other) → TiedAtSays links i j gap (eqb other gap)
+pub at_gap : (links : List ℕ) (i j gap other : ℕ) → Between links i j (Some other) → TiedAtSays links i j gap (eqb other gap)
 at_gap links i j gap other h = go (eqb other gap) (same other gap)
   where
     go : (r : Bool) → Decides (other ≡ gap) r → TiedAtSays links i j gap r
-    go true D = at-it (subst (λ (g : ℕ). Between links i j (Tied g)) (D.yes refl) h)
+    go true D = at-it (subst (λ (g : ℕ). Between links i j (Some g)) (D.yes refl) h)
     go false D = at-another other (D.no refl) h
 
 abbrev plainly : (at gap : ℕ) → Stand

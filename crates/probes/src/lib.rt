@@ -11,7 +11,6 @@ ghost use Rattle.links.specs.Links.{Rising};
 ghost use Rattle.probes.specs.Probes.{TiedSays, TiedAtSays, GoesTo, UnderAt};
 
 use legs::{RANGE, Stand};
-use links::Apartness;
 
 // The most that a tie's c may be, either way.
 const MOST: u64 = 2147483648;
@@ -28,20 +27,14 @@ pub fn tied(links: &[u64], i: u8, j: u8) -> bool
     requires { (length links.now ≡ 256) × Rising links.now }
     ensures { TiedSays links.now i j result }
 {
-    match links::between(links, i, j) {
-        Apartness::Apart => false,
-        Apartness::Tied(_) => true,
-    }
+    links::between(links, i, j).is_some()
 }
 
 pub fn tied_at(links: &[u64], i: u8, j: u8, gap: u64) -> bool
     requires { (length links.now ≡ 256) × Rising links.now }
     ensures { TiedAtSays links.now i j gap result }
 {
-    match links::between(links, i, j) {
-        Apartness::Apart => false,
-        Apartness::Tied(c) => c == gap,
-    }
+    links::between(links, i, j) == Some(gap)
 }
 
 // A walk of at most T + 1 bounds from i to j, none of them strict, that comes to the gap.

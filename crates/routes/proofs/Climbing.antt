@@ -1,7 +1,7 @@
 -- A climb on its way: what comes above the point that it has come to, with what it has gathered, is what comes above the point that it
 -- began at.
 -- Assumes nothing.
-use Prim.Native.Nat.{ℕ, ◌-◌, ◌<◌}
+use Prim.Native.Nat.{ℕ, ◌<◌}
 use mathlib.Core.Path.{◌≡◌, refl, sym, ap, subst, ◌∙◌}
 use mathlib.Core.Bool.{Bool, false, xor}
 use mathlib.Core.List.{List}
@@ -9,7 +9,7 @@ use lib.ListN.{get_or}
 use native.Mathlib.Omega.{arith}
 use Rattle.sets.specs.declared.Ties.{Ties}
 use Rattle.sets.specs.Sets.{has, stored}
-use Rattle.links.specs.Links.{root, by_of, up_of, by, up, Rising}
+use Rattle.links.specs.Links.{root, by_of, up_of, by, up}
 use Rattle.routes.specs.Routes.{Upwards, topmost, further}
 use Rattle.routes.proofs.Xor.{xor-false-l, xor-false-r, xor_assoc}
 
@@ -56,13 +56,6 @@ module _ {links paths : List ℕ} {i : ℕ} where
               let f = ap (λ (b : Bool). xor b more) (x t) ∙ xor_assoc (has odd t) (has path t) more in
               subst (Upwards links paths t i) (e ∙ sym f)
               (C.on t _ (further (omega (arith, by-is)) (subst (λ (k : ℕ). Upwards links paths t k more) up_is U)))
-
-      pub climbs-higher : Rising links → root - by_of (get_or links u 0) < root - by_of link
-      climbs-higher R =
-          let e = by-is in
-          let f = ap (by links) up_is in
-          let l = R.later C.point C.place (omega arith) in
-          omega arith
 
     pub climbs-end : by_of link ≡ root → (u : ℕ) → Upwards links paths u i (has odd u)
     climbs-end h u = subst (Upwards links paths u i) (xor-false-r (has odd u)) (C.on u false (topmost (omega (arith, by-is))))

@@ -31,8 +31,9 @@ fn upwards(links: &[u64], paths: &[u64], i: u8) -> Ties
 {
     let mut odd = sets::none();
     let mut link = links[i as usize];
-    while links::by(link) != links::NONE {
-        odd = sets::difference(odd, sets::at(paths, links::by(link)));
+    // A while: how far it goes is not known before it runs.
+    while let Some(t) = links::by(link) {
+        odd = sets::difference(odd, sets::at(paths, t));
         link = links[links::up(link) as usize];
     }
     odd

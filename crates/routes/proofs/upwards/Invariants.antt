@@ -5,8 +5,8 @@ use Rattle.links.specs.Links.{root, by_of}
 use Rattle.routes.proofs.Climbing.{Climbing}
 use Rattle.routes.proofs.upwards.Given as goal
 
-abbrev pub invariant-loop-odd : goal.invariant-loop-odd
-invariant-loop-odd l = Climbing l.links l.paths l.i l.odd l.link
+abbrev pub invariant-loop-t : goal.invariant-loop-t
+invariant-loop-t l = Climbing l.links l.paths l.i l.odd l.link
 
-abbrev pub decreases-loop-odd : goal.decreases-loop-odd
-decreases-loop-odd l = root - by_of l.link
+abbrev pub decreases-loop-t : goal.decreases-loop-t
+decreases-loop-t l = root - by_of l.link
