@@ -5,7 +5,8 @@ use mathlib.Core.Path.{◌≡◌, refl, sym, ◌∙◌, ap, subst}
 use mathlib.Core.Bool.{Bool, true, false, not, ◌&&◌, false≢true}
 use mathlib.Core.List.{List}
 use lib.Dec.{eqb}
-use Rattle.std.specs.Prelude.{Some}
+use Rattle.std.specs.Option.{option_eq}
+use Rattle.std.specs.Prelude.{Option, Some, None, is_some}
 use lib.ListN.{take}
 use Rattle.meaning.specs.Decides.{Decides}
 use Rattle.meaning.proofs.Decides.{told}
@@ -13,17 +14,24 @@ use Rattle.legs.specs.Legs.{start_at, Goes}
 use Rattle.legs.specs.declared.Stand.{Stand}
 use Rattle.legs.proofs.Walks.{goes_one}
 use Rattle.links.specs.Links.{Between}
-use Rattle.probes.specs.Probes.{TiedAtSays, GoesTo}
-use Rattle.probes.specs.Probes.TiedAtSays.{at-it, at-another}
+use Rattle.probes.specs.Probes.{TiedSays, TiedAtSays, GoesTo}
+use Rattle.probes.specs.Probes.TiedSays.{one-group, two-groups}
+use Rattle.probes.specs.Probes.TiedAtSays.{at-it, at-another, at_none}
 use Rattle.probes.proofs.Tests.{same, flag, none, both}
 
--- the answer that compares a gap
-pub at_gap : (links : List ℕ) (i j gap other : ℕ) → Between links i j (Some other) → TiedAtSays links i j gap (eqb other gap)
-at_gap links i j gap other h = go (eqb other gap) (same other gap)
+-- the answer that a gap is there
+pub has_gap : (links : List ℕ) (i j : ℕ) (r : Option ℕ) → Between links i j r → TiedSays links i j (is_some r)
+has_gap links i j (Some gap) h = one-group gap h
+has_gap links i j None h = two-groups h
+
+-- and the one that it is one gap
+pub at_gap : (links : List ℕ) (i j gap : ℕ) (r : Option ℕ) → Between links i j r → TiedAtSays links i j gap (option_eq eqb r (Some gap))
+at_gap links i j gap (Some other) h = go (eqb other gap) (same other gap)
   where
     go : (r : Bool) → Decides (other ≡ gap) r → TiedAtSays links i j gap r
     go true D = at-it (subst (λ (g : ℕ). Between links i j (Some g)) (D.yes refl) h)
     go false D = at-another other (D.no refl) h
+at_gap links i j gap None h = at_none h
 
 abbrev plainly : (at gap : ℕ) → Stand
 plainly i g = record { at = i; gap = g; strict = false }
