@@ -12,7 +12,7 @@ use borrow.Author.Tests.{eqb-true, eq-eqb}
 use Rattle.sets.specs.declared.Ties.{Ties}
 use Rattle.sets.specs.Sets.{has}
 use Rattle.basis.specs.Basis.{OfTie, Among, WalkAdds}
-use Rattle.basis.proofs.Names.{among_none, among-more, among-last}
+use Rattle.basis.proofs.Names.{among-more, among-last}
 
 pub one-true : (a b : Bool) → a || b ≡ true ↔ (a ≡ true) ⊎ (b ≡ true)
 one-true true b = (λ e. inl refl, λ o. refl)
@@ -26,10 +26,7 @@ either-has a b ties f p q t =
       λ o. f t ∙ from (⊎_elim (λ x. inl ((p t).1 x)) (λ y. inr ((q t).1 y)) o),
     )
 
--- the ties of no name, and of one more: that of a tie, or another
-pub adds_none : {bounds : List ℕ} {ties : Ties} → ((t : ℕ) → has ties t ≡ false) → WalkAdds 0 bounds ties
-adds_none f = record { exactly = λ t. (λ e. absurd (false≢true (sym (f t) ∙ e)), λ A. absurd (among_none A)) }
-
+-- the ties of one name more: that of a tie, or another
 module _ {count : ℕ} {bounds : List ℕ} {ties : Ties} (D : WalkAdds count bounds ties) where
   pub adds-tie : (own : Ties) {new : Ties} → 1024 ≤ get_or bounds count 0 → ((t : ℕ) → has own t ≡ eqb t (get_or bounds count 0 % 256)) →
       ((t : ℕ) → has new t ≡ has ties t || has own t) → WalkAdds (count + 1) bounds new

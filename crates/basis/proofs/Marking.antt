@@ -1,7 +1,7 @@
--- Marks that are added: none, one, and more behind others.
+-- Marks that are added: one, and more behind others.
 -- Assumes nothing.
 use Prim.Native.Nat.{ℕ, ◌+◌, ◌%◌, ◌≤◌, ◌<◌}
-use mathlib.Core.Path.{◌≡◌, refl, sym, ◌∙◌}
+use mathlib.Core.Path.{◌≡◌, sym, ◌∙◌}
 use mathlib.Core.Bool.{Bool, true, false}
 use mathlib.Core.Logic.{◌⊎◌, inl, inr, ⊎_elim, ◌↔◌}
 use mathlib.Core.List.{List}
@@ -14,9 +14,6 @@ use Rattle.basis.specs.Basis.{OfEntry, Among, Added}
 use Rattle.basis.proofs.Names.{among-more, among-last}
 
 module _ {E : ℕ → Type 0} {old : List Bool} where
-  pub added_none : ((e : ℕ) → E e → ⊥) → Added E old old
-  added_none n = record { size = refl; own = λ e. (λ m. inl m, ⊎_elim (λ m. m) (λ x. absurd (n e x))) }
-
   pub added-as : {F : ℕ → Type 0} {new : List Bool} → ((e : ℕ) → E e ↔ F e) → Added E old new → Added F old new
   added-as i A =
       record {

@@ -1,4 +1,4 @@
--- Names of a sort among the first of a row: of none, of one more; and the bounds of the walk that the row says.
+-- Names of a sort among the first of a row: of one more; and the bounds of the walk that the row says.
 -- Assumes nothing.
 use Prim.Native.Nat.{ℕ, zero, suc, ◌+◌, ◌*◌, ◌/◌, ◌%◌, ◌<◌}
 use mathlib.Core.Path.{◌≡◌, refl, sym, ap, ◌∙◌, subst}
@@ -15,9 +15,6 @@ use Rattle.stated.specs.Said.{bound_kinds, bound_of, walk_of, WalkFormed}
 use Rattle.basis.specs.Basis.{OfEntry, OfTie, Among}
 
 module _ {Sort : ℕ → Type 0} {bounds : List ℕ} {k : ℕ} where
-  pub among_none : Among Sort 0 bounds k → ⊥
-  among_none A = omega (arith, A.within)
-
   pub among-more : {count : ℕ} → Among Sort count bounds k → Among Sort (count + 1) bounds k
   among-more A = record { at = A.at; within = omega (arith, A.within); sort = A.sort; number = A.number }
 

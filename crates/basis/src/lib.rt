@@ -38,13 +38,10 @@ fn mark_walk(bounds: &[u16], count: u8, entries: &mut [bool])
     requires { (count ≤ length bounds.now) × (length entries.old ≡ 256) }
     ensures { Added (Among OfEntry count bounds.now) entries.old entries.new }
 {
-    let mut x = 0;
-    while x < count {
-        let name = bounds[x as usize];
+    for &name in &bounds[..count as usize] {
         if name < TERM {
             entries[(name % 256) as usize] = true;
         }
-        x += 1;
     }
 }
 
@@ -73,13 +70,10 @@ fn of_walk(bounds: &[u16], count: u8) -> Ties
     ensures { WalkAdds count bounds.now result }
 {
     let mut ties = sets::none();
-    let mut x = 0;
-    while x < count {
-        let name = bounds[x as usize];
+    for &name in &bounds[..count as usize] {
         if TIE <= name {
             ties = sets::either(ties, sets::only((name % 256) as u8));
         }
-        x += 1;
     }
     ties
 }

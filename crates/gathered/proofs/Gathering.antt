@@ -23,21 +23,21 @@ use Rattle.sets.specs.Sets.{has}
 use Rattle.sets.proofs.Bits.{has-none}
 use Rattle.basis.specs.Basis.{OwnMarked, RestsOn}
 use Rattle.basis.proofs.Having.{one-true}
-use Rattle.gathered.specs.Gathers.{is_walked, Through, Gathers, NextSays}
+use Rattle.gathered.specs.Gathers.{is_walked, Through, Gathers, Next, NoNext}
 
 -- one more tie is walked: what was so is so still, and nothing else is new
-module _ {ties : Ties} {from : ℕ} {old new : List ℕ} {t : ℕ} (n : NextSays ties from old new t) (b : t < 128) where
+module _ {ties : Ties} {from : ℕ} {old new : List ℕ} {t : ℕ} (n : Next ties from old new t) where
   still-walked : (u : ℕ) → is_walked old u ≡ true → is_walked new u ≡ true
-  still-walked u h = n.now-walked b u ∙ rw h refl
+  still-walked u h = n.now-walked u ∙ rw h refl
 
   newly-walked : (u : ℕ) → is_walked new u ≡ true → (is_walked old u ≡ true) ⊎ (u ≡ t)
-  newly-walked u h = ⊎_elim (λ a. inl a) (λ e. inr (eqb-true u t e)) ((one-true (is_walked old u) (eqb u t)).0 (sym (n.now-walked b u) ∙ h))
+  newly-walked u h = ⊎_elim (λ a. inl a) (λ e. inr (eqb-true u t e)) ((one-true (is_walked old u) (eqb u t)).0 (sym (n.now-walked u) ∙ h))
 
   same-walked : (u : ℕ) → (u ≡ t → ⊥) → is_walked new u ≡ is_walked old u
-  same-walked u h = n.now-walked b u ∙ rw (ne_eqb u t h) (or-false (is_walked old u))
+  same-walked u h = n.now-walked u ∙ rw (ne_eqb u t h) (or-false (is_walked old u))
 
   this-walked : is_walked new t ≡ true
-  this-walked = n.now-walked b t ∙ rw (eq-eqb t t refl) (or-true (is_walked old t))
+  this-walked = n.now-walked t ∙ rw (eq-eqb t t refl) (or-true (is_walked old t))
 
 own-kept : {r : Record} {old new : List Bool} → OwnMarked r old new → (e : ℕ) → marked old e ≡ true → marked new e ≡ true
 own-kept o e m = (o.own e).1 (inl m)
@@ -63,13 +63,6 @@ module _ (s : Sheet) (steps : List Step) (at : ℕ) where
     pub only : (e : ℕ) → marked entries' e ≡ true → (marked entries e ≡ true) ⊎ Behind s steps at e
     pub lower : (t : ℕ) → is_walked walked' t ≡ true → (is_walked walked t ≡ true) ⊎ Gathered s steps at t
 
-  -- and the next one is found, which isn't gathered yet
-  pub record Turn (ties : Ties) (entries : List Bool) (walked : List ℕ) (entries' : List Bool) (walked' : List ℕ) (t : ℕ) : Type 0 where
-    pub from : ℕ
-    pub before : List ℕ
-    pub partly : Partly ties from entries walked entries' before
-    pub next : NextSays ties from before walked' t
-
   pub none_yet : (ties : Ties) {entries : List Bool} {walked : List ℕ} → Through s steps at entries walked →
       Partly ties 0 entries walked entries walked
   none_yet ties h = record {
@@ -82,26 +75,23 @@ module _ (s : Sheet) (steps : List Step) (at : ℕ) where
     lower = λ t m. inl m;
   }
 
+  -- the next one is found
   module _ {ties : Ties} {from : ℕ} {entries entries' : List Bool} {walked old new : List ℕ} {t : ℕ}
-      (p : Partly ties from entries walked entries' old) (n : NextSays ties from old new t) where
-    -- those of the set below the next one are walked; where there is no next one, all are
+      (p : Partly ties from entries walked entries' old) (n : Next ties from old new t) where
+    -- those of the set below it are walked
     passed : (u : ℕ) → u < t → has ties u ≡ true → is_walked old u ≡ true
     passed u k h = ⊎_elim (λ m. n.passed u m k h) (λ m. p.first u m h) (order from u)
 
-    all-walked : 128 ≤ t → (u : ℕ) → has ties u ≡ true → is_walked old u ≡ true
-    all-walked l u h =
-        ⊎_elim (λ m. absurd (true≢false (sym h ∙ has-none ties m))) (λ m. passed u (omega (arith, m, l)) h) (order 128 u)
-
-    module _ (b : t < 128) (l : t < at) where
-      -- before the next tie is gathered
+    module _ (l : t < at) where
+      -- before it is gathered
       pub next-through : Through s steps t entries' new
       next-through = record {
         uses = λ u e m w h. p.through.uses u e (omega (arith, l, m)) (was u m w) h;
-        rests = λ u v m w h. still-walked n b v (p.through.rests u v (omega (arith, l, m)) (was u m w) h);
+        rests = λ u v m w h. still-walked n v (p.through.rests u v (omega (arith, l, m)) (was u m w) h);
       }
         where
           was : (u : ℕ) → u < t → is_walked new u ≡ true → is_walked old u ≡ true
-          was u m w = sym (same-walked n b u (λ e. omega (arith, m, e))) ∙ w
+          was u m w = sym (same-walked n u (λ e. omega (arith, m, e))) ∙ w
 
       -- and behind it
       pub one_more : {entries'' : List Bool} {walked'' : List ℕ} → Rests s steps at (step_at steps at) t →
@@ -109,7 +99,7 @@ module _ (s : Sheet) (steps : List Step) (at : ℕ) where
       one_more {walked''} r g = record {
         kept = λ e m. g.kept e (p.kept e m);
         still = λ u m. later u (p.still u m);
-        first = λ u m h. ⊎_elim (λ q. g.still u (rw q (this-walked n b))) (λ k. later u (passed u k h)) (eq-or-lt_of_le {n = u} {m = t} (omega (arith, m)));
+        first = λ u m h. ⊎_elim (λ q. g.still u (rw q (this-walked n))) (λ k. later u (passed u k h)) (eq-or-lt_of_le {n = u} {m = t} (omega (arith, m)));
         through = record {
           uses = λ u e m w h. by_order u (λ k. g.below.uses u e k w h)
               (λ q. g.own-uses e (subst (λ (i : ℕ). Uses (step_at steps i) e) q h))
@@ -120,7 +110,7 @@ module _ (s : Sheet) (steps : List Step) (at : ℕ) where
         };
         above = λ u m. same u (omega (arith, l, m)) ∙ p.above u m;
         only = λ e m. ⊎_elim (λ h. p.only e h) (λ k. inr (behind k)) (g.only e m);
-        lower = λ u m. ⊎_elim (λ h. ⊎_elim (λ k. p.lower u k) (λ q. inr (rw q (further own r))) (newly-walked n b u h)) (λ k. inr (through-tie r k))
+        lower = λ u m. ⊎_elim (λ h. ⊎_elim (λ k. p.lower u k) (λ q. inr (rw q (further own r))) (newly-walked n u h)) (λ k. inr (through-tie r k))
             (g.lower u m);
       }
         where
@@ -128,10 +118,10 @@ module _ (s : Sheet) (steps : List Step) (at : ℕ) where
           behind k = record { step = k.step; gathered = through-tie r k.gathered; uses = k.uses }
 
           later : (u : ℕ) → is_walked old u ≡ true → is_walked walked'' u ≡ true
-          later u h = g.still u (still-walked n b u h)
+          later u h = g.still u (still-walked n u h)
 
           same : (u : ℕ) → t < u → is_walked walked'' u ≡ is_walked old u
-          same u k = g.above u (omega (arith, k)) ∙ same-walked n b u (λ e. omega (arith, k, e))
+          same u k = g.above u (omega (arith, k)) ∙ same-walked n u (λ e. omega (arith, k, e))
 
           was : (u : ℕ) → t < u → is_walked walked'' u ≡ true → is_walked old u ≡ true
           was u k w = sym (same u k) ∙ w
@@ -139,15 +129,22 @@ module _ (s : Sheet) (steps : List Step) (at : ℕ) where
           by_order : {X : Type 0} (u : ℕ) → (u < t → X) → (u ≡ t → X) → (t < u → X) → X
           by_order u f g h = ⊎_elim (λ m. ⊎_elim (λ q. g (sym q)) h (eq-or-lt_of_le {n = t} {m = u} m)) f (order t u)
 
-    -- behind the last tie
+  -- there is no next one: all are walked
+  module _ {ties : Ties} {from : ℕ} {entries entries' : List Bool} {walked old new : List ℕ}
+      (p : Partly ties from entries walked entries' old) (n : NoNext ties from old new) where
+    all-walked : (u : ℕ) → has ties u ≡ true → is_walked old u ≡ true
+    all-walked u h =
+        ⊎_elim (λ m. absurd (true≢false (sym h ∙ has-none ties m)))
+        (λ k. ⊎_elim (λ m. n.passed u m k h) (λ m. p.first u m h) (order from u)) (order 128 u)
+
     pub done : {r : Record} {entries₀ : List Bool} → (length entries' ≡ length entries₀) × (length new ≡ length walked) →
-        step_at steps at ≡ step_of r → OwnMarked r entries₀ entries → RestsOn s steps at r ties → 128 ≤ t → Gathers s steps at entries₀ walked entries' new
-    done {r} sizes is o rests l = let none = n.none (omega (arith, l, n.most)) in rw none record {
-      sizes = (sizes.0, rw (← none) sizes.1);
+        step_at steps at ≡ step_of r → OwnMarked r entries₀ entries → RestsOn s steps at r ties → Gathers s steps at entries₀ walked entries' new
+    done {r} sizes is o rests = let same = n.same in rw same record {
+      sizes = (sizes.0, rw (← same) sizes.1);
       kept = λ e m. p.kept e (own-kept o e m);
       still = p.still;
       own-uses = λ e u. p.kept e ((o.own e).1 (inr (subst (λ (k : Step). Uses k e) is u)));
-      own-rests = λ u h. all-walked l u ((rests.exactly u).1 (subst (λ (k : Step). Rests s steps at k u) is h));
+      own-rests = λ u h. all-walked u ((rests.exactly u).1 (subst (λ (k : Step). Rests s steps at k u) is h));
       below = p.through;
       above = p.above;
       only = λ e m. ⊎_elim (λ h. ⊎_elim (λ old. inl old) (λ u. inr (itself e u)) ((o.own e).0 h)) (λ k. inr k) (p.only e m);

@@ -1,6 +1,6 @@
 -- What is marked when the entries behind a step are gathered.
 -- Assumes nothing.
-use Rattle.std.specs.Prelude.{ℕ, ◌≤◌, ◌<◌, ◌≡◌, ◌⊎◌, Bool, true, false, ◌||◌, List, eqb, length}
+use Rattle.std.specs.Prelude.{ℕ, ◌≤◌, ◌<◌, ◌≡◌, ◌⊎◌, Bool, true, false, ◌||◌, Option, Some, None, List, eqb, length}
 use Rattle.order.specs.First.{Set, marked}
 use Rattle.sheet.specs.Decode.{sheet_of}
 use Rattle.sheet.specs.Sheet.{Sheet}
@@ -51,12 +51,20 @@ pub record Gathers (s : Sheet) (steps : List Step) (at : ℕ) (entries : List Bo
   pub only : (e : ℕ) → marked entries' e ≡ true → (marked entries e ≡ true) ⊎ Behind s steps at e
   pub lower : (t : ℕ) → is_walked walked' t ≡ true → (is_walked walked t ≡ true) ⊎ Gathered s steps at t
 
--- tie r is the next one of a set that isn't walked, and is walked now; 128 where there is none
-pub record NextSays (ties : Ties) (from : ℕ) (walked walked' : List ℕ) (r : ℕ) : Type 0 where
+-- tie r is the next one of a set that isn't walked, and is walked now
+pub record Next (ties : Ties) (from : ℕ) (walked walked' : List ℕ) (r : ℕ) : Type 0 where
   pub size : length walked' ≡ length walked
-  pub most : r ≤ 128
+  pub below : r < 128
   pub from_on : from ≤ r
   pub passed : (t : ℕ) → from ≤ t → t < r → has ties t ≡ true → is_walked walked t ≡ true
-  pub here : r < 128 → (has ties r ≡ true) × (is_walked walked r ≡ false)
-  pub now-walked : r < 128 → (t : ℕ) → is_walked walked' t ≡ is_walked walked t || eqb t r
-  pub none : r ≡ 128 → walked' ≡ walked
+  pub here : (has ties r ≡ true) × (is_walked walked r ≡ false)
+  pub now-walked : (t : ℕ) → is_walked walked' t ≡ is_walked walked t || eqb t r
+
+-- there is none
+pub record NoNext (ties : Ties) (from : ℕ) (walked walked' : List ℕ) : Type 0 where
+  pub passed : (t : ℕ) → from ≤ t → t < 128 → has ties t ≡ true → is_walked walked t ≡ true
+  pub same : walked' ≡ walked
+
+abbrev pub NextSays : (ties : Ties) (from : ℕ) (walked walked' : List ℕ) → Option ℕ → Type 0
+NextSays ties from walked walked' (Some r) = Next ties from walked walked' r
+NextSays ties from walked walked' None = NoNext ties from walked walked'

@@ -28,22 +28,20 @@ pub fn gather(
     let s = stated::step_at(steps, at);
     basis::mark(s, entries);
     let ties = basis::rests(sheet, links, paths, s);
-    let mut t = next(ties, 0, walked);
-    while t < sets::MOST {
-        gather(sheet, steps, links, paths, t as usize, entries, walked);
-        t = next(ties, t + 1, walked);
+    let mut from = 0;
+    while let Some(t) = next(ties, from, walked) {
+        gather(sheet, steps, links, paths, usize::from(t), entries, walked);
+        from = t + 1;
     }
 }
 
-// The next tie of a set, from `from` on, that isn't walked yet, and is now; 128 if there is none.
-fn next(ties: Ties, from: u8, walked: &mut [u64]) -> u8
+// The next tie of a set, from `from` on, that isn't walked yet, and is now, if there is one.
+fn next(ties: Ties, from: u8, walked: &mut [u64]) -> Option<u8>
     requires { (from ≤ 128) × (length walked.old ≡ 2) }
     ensures { NextSays ties from walked.old walked.new result }
 {
     let before = sets::at(walked, 0);
-    let t = sets::first(sets::without(ties, before), from);
-    if t < sets::MOST {
-        sets::put(walked, 0, sets::either(before, sets::only(t)));
-    }
-    t
+    let t = sets::first(sets::without(ties, before), from)?;
+    sets::put(walked, 0, sets::either(before, sets::only(t)));
+    Some(t)
 }

@@ -2,7 +2,6 @@
 -- Assumes nothing.
 use Prim.Native.Nat.{ℕ}
 use mathlib.Core.Path.{◌≡◌, refl, sym, ap, ◌∙◌}
-use mathlib.Core.Bool.{false}
 use lib.ListN.{length}
 use native.Mathlib.Omega.{arith}
 use Rattle.sheet.specs.declared.Symbol.{Symbol}
@@ -13,7 +12,6 @@ use Rattle.sheet.specs.Says.{term_says}
 use Rattle.sheet.specs.Sheet.{Term, term_at}
 use Rattle.sheet.specs.declared.TermNumber.{TermNumber}
 use Rattle.sets.specs.declared.Ties.{Ties}
-use Rattle.sets.specs.Sets.{has}
 use Rattle.links.specs.Links.{Rising}
 use Rattle.basis.specs.Basis.{arity, InputsSay}
 use Rattle.basis.specs.Basis.InputsSay.{one, two, other}

@@ -1,27 +1,20 @@
 -- `basis::mark_walk` meets its contract: the entries of the names before the counter are marked (proofs/Marking.antt).
 -- Assumes nothing.
-use Prim.Native.Nat.{◌-◌}
-use mathlib.Core.Path.{◌≡◌}
-use lib.ListN.{length-set}
+use Prim.Native.Nat.{◌<◌}
 use native.Mathlib.Omega.{arith}
-use Rattle.basis.proofs.Names.{among_none}
-use Rattle.basis.proofs.Marking.{added_none, added-entry, added-other}
+use lib.ListN.{length-set}
+use Rattle.std.proofs.lemmas.List.{get_or-take, length-take}
+use Rattle.basis.proofs.Marking.{added-entry, added-other}
 use Rattle.basis.proofs.mark_walk.Goals as goal
 use Rattle.basis.proofs.mark_walk.Goals.{then-name-lt-TERM, else-name-lt-TERM}
 
-pub loop-x-init : goal.loop-x-init
-loop-x-init c = (omega arith, omega arith, added_none (λ e A. among_none A))
-
-pub loop-x-preserved : goal.loop-x-preserved
-loop-x-preserved c =
-    let loop = c.loop-x in
+pub loop-name-preserved : goal.loop-name-preserved
+loop-name-preserved c =
+    let x = c.loop-name.name-index in
+    let within : x < c.args.count = omega (arith, length-take c.args.count c.args.bounds.now) in
+    let same = get_or-take c.args.count c.args.bounds.now x 0 within in
+    let (size, added) = c.loop-name.invariant in
     elim c.if-name-lt-TERM.branch [
-      | then-name-lt-TERM w ↦ rw w.entries-is (omega arith, simp length-set loop.invariant.1, added-entry loop.invariant.2 (omega (arith, w.if-name-lt-TERM.true)) (omega arith))
-      | else-name-lt-TERM w ↦ rw w.entries-is (omega arith, loop.invariant.1, added-other loop.invariant.2 (omega (arith, w.if-name-lt-TERM.false)))
+      | then-name-lt-TERM w ↦ rw (w.entries-is, same) (simp length-set size, added-entry added (omega (arith, same, w.if-name-lt-TERM.true)) (omega arith))
+      | else-name-lt-TERM w ↦ rw w.entries-is (size, added-other added (omega (arith, same, w.if-name-lt-TERM.false)))
     ]
-
-pub returns : goal.returns
-returns c =
-    let loop = c.loop-x in
-    let end : loop.x ≡ c.args.count = omega arith in
-    rw end at loop.invariant.2

@@ -1,11 +1,7 @@
 -- `basis::of_walk` meets its contract: the set has the ties of the names before the counter (proofs/Having.antt).
 -- Assumes nothing.
-use Prim.Native.Nat.{◌-◌, ◌≤◌}
 use Rattle.basis.specs.Basis.{WalkAdds}
 use Rattle.basis.proofs.of_walk.Given as goal
 
-abbrev pub invariant-loop-x : goal.invariant-loop-x
-invariant-loop-x l = (l.x ≤ l.count) × WalkAdds l.x l.bounds l.ties
-
-abbrev pub decreases-loop-x : goal.decreases-loop-x
-decreases-loop-x l = l.count - l.x
+abbrev pub invariant-loop-name : goal.invariant-loop-name
+invariant-loop-name l = WalkAdds l.name-index l.bounds l.ties

@@ -1,9 +1,8 @@
 -- `basis::rests` meets its contract, kind by kind: what each of its calls asks a right step has, and the set that they make has what it
 -- rests on (proofs/Resting.antt).
 -- Assumes nothing.
-use Prim.Native.Nat.{◌≤◌}
 use mathlib.Core.Path.{◌≡◌}
-use mathlib.Core.Logic.{inl, inr, ◌≢◌}
+use mathlib.Core.Logic.{inl, inr}
 use lib.ListN.{length}
 use native.Mathlib.Omega.{arith}
 use borrow.Author.Rules.{rules}
