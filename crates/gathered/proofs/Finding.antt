@@ -1,6 +1,6 @@
 -- The next tie of a set that isn't walked yet, by what the sets on the way to it have.
 -- Assumes nothing.
-use Prim.Native.Nat.{ℕ, ◌≤◌, ◌<◌}
+use Prim.Native.Nat.{ℕ}
 use mathlib.Core.Path.{◌≡◌, refl, ◌∙◌, sym, ap}
 use mathlib.Core.Bool.{Bool, true, false, not, ◌&&◌, ◌||◌, true≢false}
 use mathlib.Core.List.{List}
@@ -19,7 +19,7 @@ both true b h = (refl, h)
 both false b h = absurd (true≢false (sym h))
 
 -- `rest` has the ties of a set that aren't walked
-module _ (ties : Ties) (walked : List ℕ) {before rest : Ties} {from : ℕ} (is : before ≡ stored walked 0)
+module _ (ties : Ties) (walked : List ℕ) (rest : Ties) {before : Ties} (is : before ≡ stored walked 0)
     (left : (t : ℕ) → has rest t ≡ has ties t && not (has before t)) where
   still-left : (t : ℕ) → has rest t ≡ has ties t && not (is_walked walked t)
   still-left t = left t ∙ ap (λ (a : Ties). has ties t && not (has a t)) is
@@ -28,9 +28,9 @@ module _ (ties : Ties) (walked : List ℕ) {before rest : Ties} {from : ℕ} (is
   passed t n h = not-false _ (sym (still-left t ∙ ap (λ (a : Bool). a && not (is_walked walked t)) h) ∙ n)
 
   -- r is its first one
-  pub found : {r : ℕ} (one more : Ties) → FirstFrom rest from (Some r) → length walked ≡ 2 → ((t : ℕ) → has one t ≡ eqb t r) →
+  pub found : (from : ℕ) {r : ℕ} (one more : Ties) → FirstFrom rest from (Some r) → length walked ≡ 2 → ((t : ℕ) → has one t ≡ eqb t r) →
       ((t : ℕ) → has more t ≡ has before t || has one t) → NextSays ties from walked (put walked 0 more) (Some r)
-  found {r} one more f size alone either = record {
+  found from {r} one more f size alone either = record {
     size = put-length walked 0 more;
     below = f.below;
     from_on = f.from_on;
@@ -44,5 +44,5 @@ module _ (ties : Ties) (walked : List ℕ) {before rest : Ties} {from : ℕ} (is
   }
 
   -- it has none
-  pub not_found : FirstFrom rest from None → NextSays ties from walked walked None
-  not_found f = record { passed = λ t l b. passed t (f t l b); same = refl }
+  pub not_found : (from : ℕ) → FirstFrom rest from None → NextSays ties from walked walked None
+  not_found from f = record { passed = λ t l b. passed t (f t l b); same = refl }

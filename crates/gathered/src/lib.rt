@@ -30,7 +30,7 @@ pub fn gather(
     let ties = basis::rests(sheet, links, paths, s);
     let mut from = 0;
     while let Some(t) = next(ties, from, walked) {
-        gather(sheet, steps, links, paths, usize::from(t), entries, walked);
+        gather(sheet, steps, links, paths, t as usize, entries, walked);
         from = t + 1;
     }
 }

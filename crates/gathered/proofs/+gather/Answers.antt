@@ -1,12 +1,11 @@
 -- `gathered::gather` meets its contract (proofs/Gathering.antt).
 -- Assumes nothing.
-use Prim.Native.Nat.{◌+◌}
-use mathlib.Core.Path.{sym, ◌∙◌}
+use mathlib.Core.Path.{ap, ◌∙◌}
+use lib.ListN.{length}
 use native.Mathlib.Omega.{arith}
-use borrow.Author.Rules.{rules}
 use Rattle.stated.specs.Said.{steps_of}
 use Rattle.gathered.proofs.Standing.{said, stands, walks-fit, rests-said, earlier}
-use Rattle.gathered.proofs.Gathering.{none_yet, begun, next-through, one_more, done}
+use Rattle.gathered.proofs.Gathering.{begun, next-through, one_more, done}
 use Rattle.gathered.proofs.+gather.Goals as goal
 
 pub mark-requires : goal.mark-requires
@@ -51,8 +50,8 @@ loop-t-preserved t c =
     let i = c.loop-t.invariant in
     let n = c.in-Some.ensures in
     record {
-      entries-size = ?;
-      walked-size = ?;
+      entries-size = omega arith;
+      walked-size = omega (arith, n.size);
       within = omega (arith, n.below);
       partly = λ h.
           let q = c.requires.1 in
@@ -70,4 +69,4 @@ returns t c = λ h.
     let on = c.rests-ties.ensures _ _ _ _ _ (stands q.upright q.among c.step_at-s.ensures) in
     let o = c.mark.ensures in
     let n = c.in_default.ensures in
-    done _ _ _ (i.partly (begun _ _ _ o h)) n ? (said q.upright q.among c.step_at-s.ensures) o on
+    done _ _ _ (i.partly (begun _ _ _ o h)) n (omega arith, omega (arith, ap length n.same)) (said q.upright q.among c.step_at-s.ensures) o on
