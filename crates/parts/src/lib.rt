@@ -37,8 +37,7 @@ pub fn put_entry(d: &mut [u32], n: usize, e: Entry) -> bool
 {
     let a = e.a.0 as usize;
     let b = e.b.0 as usize;
-    let relation = e.relation;
-    match relation {
+    match e.relation {
         Relation::Equal => steps::put_tie(d, n, a, b, e.c),
         Relation::Unequal => true,
         Relation::AtMost => table::insert(d, n, a, b, steps::to(e.c)),
