@@ -1,29 +1,18 @@
--- The parts of a sheet as steps: a tie is two bounds, a term or an entry what its kind says, and a whole part one step after the other.
+-- The parts of a sheet as steps: a whole part is one step after the other.
 -- Assumes nothing.
 use Prim.Native.Nat.{ℕ, ◌+◌, ◌<◌}
-use mathlib.Core.Path.{◌≡◌, sym, ◌∙◌}
-use mathlib.Core.Bool.{Bool, true, false, true≢false}
+use mathlib.Core.Path.{◌≡◌}
+use mathlib.Core.Bool.{Bool, true}
 use mathlib.Core.List.{List}
 use native.Mathlib.Omega.{arith}
 use borrow.Author.Count.{below_more}
-use Rattle.closure.specs.Table.{Table}
-use Rattle.cells.specs.Cells.{cell, Kept}
+use Rattle.cells.specs.Cells.{Kept}
 use Rattle.order.specs.First.{Set}
-use Rattle.sheet.specs.Sheet.{Sheet, Term, Entry, WellFormed, count_terms, count_entries, term_at, entry_at}
-use Rattle.meaning.specs.Meaning.{EntryTrue}
+use Rattle.sheet.specs.Sheet.{Sheet, Term, WellFormed, count_terms, count_entries, term_at, entry_at}
 use Rattle.settled.specs.Settled.{zero_level, points, TermHeld, EntryHeld}
 use Rattle.steps.specs.Step.{Went, Stepped}
 use Rattle.steps.specs.True.{TermTrue, TermsTrue, MarkedTrue, EntriesTrue, TermsHeld, MarkedHeld, EntriesHeld}
-use Rattle.steps.proofs.Steps.{changed, stayed, followed, term-tighter, entry-tighter}
-
--- an entry outside the set is let be, and one in it is put in
-pub unmarked : {n : ℕ} {mark : Bool} {x : Entry} {old : List ℕ} → mark ≡ false → Table n (cell old)
-    → Stepped n (MarkedTrue mark x) (MarkedHeld mark x) old old true
-unmarked e T = stayed T (record { entry = λ f. absurd (true≢false (sym f ∙ e)) })
-
-pub marked : {n m : ℕ} {mark : Bool} {x y : Entry} {old new : List ℕ} {r : Bool} → mark ≡ true → m ≡ n → x ≡ y
-    → Stepped m (λ D v. EntryTrue D v x) (λ k. EntryHeld k x) old new r → Stepped n (MarkedTrue mark y) (MarkedHeld mark y) old new r
-marked e same is S = changed (λ D v q. q.entry e) (λ d h. record { entry = λ f. h }) (rw (same, is) at S)
+use Rattle.steps.proofs.Steps.{followed, term-tighter, entry-tighter}
 
 -- one more term, and one more entry
 pub terms-more : (s : Sheet) (i : ℕ) {z : ℕ} {x : Term} {old mid new : List ℕ} {r : Bool} → WellFormed s → i < count_terms s

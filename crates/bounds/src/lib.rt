@@ -20,13 +20,11 @@ pub fn put_terms(sheet: &[u8], d: &mut [u32]) -> bool
     ensures { TermsPut (sheet_of sheet.now) d.old d.new result }
 {
     let t = reading::count_terms(sheet);
-    let mut i = 0;
-    while i < t {
+    for i in 0..t {
         let own = TermNumber(i as u8);
         if !parts::put_term(d, t, own, reading::term_at(sheet, own)) {
             return false;
         }
-        i += 1;
     }
     true
 }
@@ -38,13 +36,10 @@ pub fn put_entries(sheet: &[u8], set: &[bool], d: &mut [u32]) -> bool
     requires d_len { (length d.old ≡ cells) × Table (points (sheet_of sheet.now)) (cell d.old) }
     ensures { EntriesPut (sheet_of sheet.now) (marked set.now) d.old d.new result }
 {
-    let l = reading::count_entries(sheet);
-    let mut e = 0;
-    while e < l {
+    for e in 0..reading::count_entries(sheet) {
         if !put_marked(sheet, set, d, EntryNumber(e as u8)) {
             return false;
         }
-        e += 1;
     }
     true
 }

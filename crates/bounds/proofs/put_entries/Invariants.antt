@@ -1,12 +1,9 @@
 -- `bounds::put_entries` meets its contract: the marked entries before the counter are in the table (proofs/Parts.antt).
 -- Assumes nothing.
-use Prim.Native.Nat.{◌-◌, ◌≤◌}
-use mathlib.Core.Path.{◌≡◌}
 use mathlib.Core.Bool.{false}
-use lib.ListN.{length, get_or}
+use lib.ListN.{get_or}
 use Rattle.cells.specs.Cells.{Kept}
 use Rattle.sheet.specs.Decode.{sheet_of}
-use Rattle.sheet.specs.Sheet.{count_entries}
 use Rattle.settled.specs.Settled.{points}
 use Rattle.steps.specs.Step.{Went}
 use Rattle.steps.specs.True.{EntriesTrue, EntriesHeld}
@@ -14,8 +11,5 @@ use Rattle.bounds.proofs.put_entries.Given as goal
 
 abbrev pub invariant-loop-e : goal.invariant-loop-e
 invariant-loop-e l =
-    (l.e ≤ l.l) × (l.l ≡ count_entries (sheet_of l.sheet)) × (length l.d ≡ length l.initial.d) × Kept (points (sheet_of l.sheet)) l.initial.d l.d
+    Kept (points (sheet_of l.sheet)) l.initial.d l.d
     × Went (points (sheet_of l.sheet)) (EntriesTrue (sheet_of l.sheet) (λ k. get_or l.set k false)) (EntriesHeld (sheet_of l.sheet) (λ k. get_or l.set k false) l.e) l.initial.d l.d
-
-abbrev pub decreases-loop-e : goal.decreases-loop-e
-decreases-loop-e l = l.l - l.e
