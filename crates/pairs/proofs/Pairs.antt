@@ -23,8 +23,8 @@ use Rattle.steps.specs.Step.{Met, Stepped}
 use Rattle.steps.specs.True.{TieTrue}
 use Rattle.ties.proofs.Zero.{tied_back, tied-self}
 use Rattle.joined.specs.Joined.{Joined, JoinedAt}
-use Rattle.pairs.specs.declared.Passed.{Passed}
-use Rattle.pairs.specs.declared.Passed.TheVariants.{Still}
+use Rattle.std.specs.Prelude.{Result, Ok}
+use Rattle.pairs.specs.declared.Clash.{Clash}
 use Rattle.pairs.specs.Passing.{FunctionsTrue, PairTied, AllTied, Passing, clash, tied, still, Tying, refused, fresh, already, put_of}
 use Rattle.pairs.proofs.Total.{falls}
 
@@ -41,7 +41,7 @@ tied-new {n} {i} {j} {old} {new} {r} i< j< not S = go r refl
     go false f = refused (S.refuted f) S.kept
 
 module _ (s : Sheet) (W : WellFormed s) (i j : ℕ) (i< : i < count_terms s) (j< : j < i) (old : List ℕ) where
-  pub not-joined : {same : Bool} → Decides (JoinedAt s (cell old) i j) same → same ≡ false → Passing s (PairTied s i j) old old Still
+  pub not-joined : {same : Bool} → Decides (JoinedAt s (cell old) i j) same → same ≡ false → Passing s (PairTied s i j) old old (Ok false)
   not-joined D e = still (record { tied = λ q. absurd (D.no e q) })
 
   module _ (J : JoinedAt s (cell old) i j) where
@@ -57,14 +57,14 @@ module _ (s : Sheet) (W : WellFormed s) (i j : ℕ) (i< : i < count_terms s) (j<
               sym (plus-zero (v j) D);
         }
 
-    pass_on : {new : List ℕ} {r : Passed} → Tying (points s) i j old new r → Passing s (PairTied s i j) old new r
+    pass_on : {new : List ℕ} {r : Result Bool Clash} → Tying (points s) i j old new r → Passing s (PairTied s i j) old new r
     pass_on (refused R k) = clash (λ D v D> M F. R D v D> M (asked D v M F)) k
     pass_on (fresh w k l) =
         tied (record { table = w.table; tighter = w.tighter; met = λ D v D> M F. w.met D v D> M (asked D v M F); there = tt }) k l
     pass_on (already t) = still (record { tied = λ q. t })
 
     -- m is what the code counted
-    pub joined : {m : ℕ} {new : List ℕ} {r : Passed} → m ≡ count_terms s → Tying (m + 1) i j old new r → Passing s (PairTied s i j) old new r
+    pub joined : {m : ℕ} {new : List ℕ} {r : Result Bool Clash} → m ≡ count_terms s → Tying (m + 1) i j old new r → Passing s (PairTied s i j) old new r
     joined m-is T = pass_on (rw m-is at T)
 
 -- tied at 0 is tied at 0 from either side, and so are inputs

@@ -12,8 +12,8 @@ use Rattle.sheet.specs.Sheet.{Sheet}
 use Rattle.settled.specs.Settled.{points}
 use Rattle.steps.specs.Step.{Stepped}
 use Rattle.steps.proofs.Steps.{Leaves, arrived, followed}
-use Rattle.pairs.specs.declared.Passed.{Passed}
-use Rattle.pairs.specs.declared.Passed.TheVariants.{Clash, New, Still}
+use Rattle.std.specs.Prelude.{Result, Ok, Err}
+use Rattle.pairs.specs.declared.Clash.{Clash}
 use Rattle.pairs.specs.Passing.{FunctionsTrue, total, Passing, clash, tied, still, passed_of}
 
 module _ (s : Sheet) where
@@ -34,12 +34,12 @@ module _ (s : Sheet) where
   sofar-table (same T q) = T
 
   -- one more pass, that tied something or found nothing to do
-  pub more-new : {Q Q' P : Leaves} {old d new : List ℕ} {b : Bool} → Sofar Q old d b → Passing s P d new New → Sofar Q' old new true
+  pub more-new : {Q Q' P : Leaves} {old d new : List ℕ} {b : Bool} → Sofar Q old d b → Passing s P d new (Ok true) → Sofar Q' old new true
   more-new (fresh p l) (tied w k f) = fresh (on p (arrived k w)) (omega arith)
   more-new (same T q) (tied w k f) = fresh (arrived k w) f
 
   pub more-still : {Q Q' P : Leaves} {old d new : List ℕ} {b : Bool} → (Q (cell d) → P (cell d) → Q' (cell d))
-      → Sofar Q old d b → Passing s P d new Still → Sofar Q' old new b
+      → Sofar Q old d b → Passing s P d new (Ok false) → Sofar Q' old new b
   more-still f (fresh p l) (still q) = fresh p l
   more-still f (same T h) (still q) = same T (f h q)
 
@@ -49,12 +49,12 @@ module _ (s : Sheet) where
   ended f (same T h) = still (f _ h)
 
   -- a clash after some passes is one from the start
-  pub clash-after : {Q P P' : Leaves} {old d new : List ℕ} {b : Bool} → Sofar Q old d b → Passing s P d new Clash → Passing s P' old new Clash
+  pub clash-after : {Q P P' : Leaves} {old d new : List ℕ} {b : Bool} {e : Clash} → Sofar Q old d b → Passing s P d new (Err e) → Passing s P' old new (Err e)
   clash-after (fresh p l) (clash R K) = clash (λ D v D> M q. R D v D> ((p.went refl).met D v D> M q) q) (kept_on p.kept K)
   clash-after (same T h) (clash R K) = clash R K
 
   -- what is true of the table where nothing was to be done follows from what a pass says of it
-  pub passing-map : {P Q : Leaves} {old new : List ℕ} {r : Passed} → (P (cell old) → Q (cell old)) → Passing s P old new r → Passing s Q old new r
+  pub passing-map : {P Q : Leaves} {old new : List ℕ} {r : Result Bool Clash} → (P (cell old) → Q (cell old)) → Passing s P old new r → Passing s Q old new r
   passing-map f (clash R K) = clash R K
   passing-map f (tied w k l) = tied w k l
   passing-map f (still p) = still (f p)

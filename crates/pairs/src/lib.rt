@@ -8,52 +8,39 @@ ghost use Rattle.cells.specs.Cells.{stride, cells, cell};
 ghost use Rattle.sheet.specs.Decode.{Sized, sheet_of};
 ghost use Rattle.sheet.specs.Sheet.{WellFormed, count_terms};
 ghost use Rattle.settled.specs.Settled.{points};
-ghost use Rattle.pairs.specs.Passing.{PairTied, Passing, Tying, passed_of, put_of};
+ghost use Rattle.pairs.specs.Passing.{PairTied, Passing, Tying};
 
 use sheet::{Biased, TermNumber};
 
-// What a pair, a row or a pass came to.
-#[derive(Clone, Copy)]
-pub enum Passed {
-    Clash,
-    New,
-    Still,
-}
+// No levels meet the table with such terms tied.
+#[derive(Clone, Copy, PartialEq, Eq, Debug)]
+pub struct Clash;
 
-// Ties terms i and j where they have the same input and aren't tied yet.
-pub fn pass_pair(sheet: &[u8], d: &mut [u32], i: TermNumber, j: TermNumber) -> Passed
+// Ties terms i and j where they have the same input and aren't tied yet, and answers whether it did.
+pub fn pass_pair(sheet: &[u8], d: &mut [u32], i: TermNumber, j: TermNumber) -> Result<bool, Clash>
     requires sized { Sized sheet.now × WellFormed (sheet_of sheet.now) × (i.0 < count_terms (sheet_of sheet.now)) × (j.0 < i.0) }
     requires d_len { (length d.old ≡ cells) × Table (points (sheet_of sheet.now)) (cell d.old) }
     ensures { Passing (sheet_of sheet.now) (PairTied (sheet_of sheet.now) i.0 j.0) d.old d.new result }
 {
     if !joined::same_at(sheet, d, i, j) {
-        return Passed::Still;
+        return Ok(false);
     }
     let n = reading::count_terms(sheet) + 1;
     tie_new(d, n, i.0 as usize, j.0 as usize)
 }
 
 // Ties points a and b where they aren't tied yet.
-fn tie_new(d: &mut [u32], n: usize, a: usize, b: usize) -> Passed
+fn tie_new(d: &mut [u32], n: usize, a: usize, b: usize) -> Result<bool, Clash>
     requires d_len { (length d.old ≡ cells) × (n ≤ stride) × (a < n) × (b < n) }
     requires table { Table n (cell d.old) }
     ensures { Tying n a b d.old d.new result }
 {
     if ties::tied_at(d, n, a, b, Biased::ZERO) {
-        return Passed::Still;
+        return Ok(false);
     }
-    put(steps::put_tie(d, n, a, b, Biased::ZERO))
-}
-
-fn put(tied: bool) -> Passed
-    ensures { result ≡ put_of tied }
-{
-    if tied { Passed::New } else { Passed::Clash }
-}
-
-// What a loop over passes came to.
-pub fn answered(fresh: bool) -> Passed
-    ensures { result ≡ passed_of fresh }
-{
-    if fresh { Passed::New } else { Passed::Still }
+    if steps::put_tie(d, n, a, b, Biased::ZERO) {
+        Ok(true)
+    } else {
+        Err(Clash)
+    }
 }

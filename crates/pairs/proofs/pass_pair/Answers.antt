@@ -1,29 +1,13 @@
 -- `pairs::pass_pair` meets its contract: the answers of proofs/Pairs.antt.
 -- Assumes nothing.
-use native.Mathlib.Omega.{arith}
 use borrow.Author.Tests.{not-true, not-false}
 use Rattle.pairs.proofs.Pairs.{not-joined, joined}
 use Rattle.pairs.proofs.pass_pair.Goals as goal
-
-pub same_at-requires : goal.same_at-requires
-same_at-requires c =
-    let pre = c.requires in record {
-      sized = (pre.sized.0, pre.sized.1);
-      i_bound = (pre.sized.2, omega arith);
-      d_len = (pre.d_len.0, pre.d_len.1.closed);
-    }
 
 pub returns-then-not-same_at : goal.returns-then-not-same_at
 returns-then-not-same_at c =
     let pre = c.requires in
     not-joined _ pre.sized.1 _ _ pre.sized.2 pre.sized.3 _ c.same_at.ensures (not-true _ c.if-not-same_at.true-raw)
-
-pub tie_new-requires : goal.tie_new-requires
-tie_new-requires c =
-    let pre = c.requires in record {
-      d_len = (pre.d_len.0, omega (arith, pre.sized.1.terms), omega arith, omega arith);
-      table = rw c.count_terms-n.ensures.0 pre.d_len.1;
-    }
 
 pub returns : goal.returns
 returns c =
