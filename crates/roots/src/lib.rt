@@ -45,12 +45,10 @@ fn root_of(d: &[u32], n: usize, a: usize) -> usize
     requires { (length d.now ≡ cells) × (n ≤ stride) × Closed n (reach n) (cell d.now) × (a < n) }
     ensures { Root (cell d.now) a result }
 {
-    let mut r = 0;
-    while r < a {
+    for r in 0..a {
         if ties::tied_at(d, n, a, r, Biased::ZERO) {
             return r;
         }
-        r += 1;
     }
-    r
+    a
 }

@@ -1,4 +1,4 @@
--- `roots::key_at` meets its contract: it reads the term.
+-- `roots::key_at` meets its contract: the arguments of the term that it reads are terms.
 -- Assumes nothing.
 use native.Mathlib.Omega.{arith}
 use Rattle.sheet.proofs.Below.{arguments-wider}
@@ -12,6 +12,3 @@ key_of-requires c =
       rw c.count_terms-n.ensures.0 c.requires.d_len.1,
       rw c.term_at.ensures (arguments-wider (omega arith) (wf.arguments c.args.i.0 (omega arith))),
     )
-
-pub returns : goal.returns
-returns c = rw c.term_at.ensures at c.key_of.ensures

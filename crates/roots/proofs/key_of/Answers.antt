@@ -2,29 +2,12 @@
 -- Assumes nothing.
 use mathlib.Core.Path.{refl}
 use native.Mathlib.Omega.{arith}
-use Rattle.sheet.proofs.Below.{argument, arguments}
 use Rattle.roots.specs.Keyed.{for-apply, for-apply2}
 use Rattle.roots.proofs.Arms.{no-input}
 use Rattle.roots.proofs.key_of.Goals as goal
 
-pub root_of-requires : goal.root_of-requires
-root_of-requires c =
-    let pre = c.requires in
-    (pre.0, pre.1, pre.2, argument (rw c.in-Apply.is at pre.3))
-
-pub root_of-requires-in-Apply2 : goal.root_of-requires-in-Apply2
-root_of-requires-in-Apply2 c =
-    let pre = c.requires in
-    (pre.0, pre.1, pre.2, (arguments (rw c.in-Apply2.is at pre.3)).0)
-
-pub root_of-requires-in-Apply2-2 : goal.root_of-requires-in-Apply2-2
-root_of-requires-in-Apply2-2 c =
-    let pre = c.requires in
-    (pre.0, pre.1, pre.2, (arguments (rw c.in-Apply2.is at pre.3)).1)
-
 pub returns-in-Apply : goal.returns-in-Apply
 returns-in-Apply c =
-    let pre = c.requires in
     let root = c.root_of.ensures in
     rw c.in-Apply.is (for-apply root refl, omega (arith, root.within))
 
