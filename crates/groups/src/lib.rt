@@ -14,11 +14,17 @@ ghost use Rattle.sorted.specs.Inserted.{Ascending};
 ghost use Rattle.pairs.specs.Passing.{Passing};
 ghost use Rattle.groups.specs.Listed.{GroupTied, TermPassed, KeyPut};
 
-use pairs::Passed;
+use pairs::Clash;
 use sheet::TermNumber;
 
-// Puts term i's key in among those of the terms before it, where those that have its input stand right below it.
-pub fn pass_term(sheet: &[u8], keys: &mut [u64], d: &mut [u32], i: TermNumber) -> Passed
+// Puts term i's key in among those of the terms before it, where those that have its input stand right below it. Answers whether it tied
+// some of them to the term.
+pub fn pass_term(
+    sheet: &[u8],
+    keys: &mut [u64],
+    d: &mut [u32],
+    i: TermNumber,
+) -> Result<bool, Clash>
     requires sized { Sized sheet.now × WellFormed (sheet_of sheet.now) × (i.0 < count_terms (sheet_of sheet.now)) }
     requires keys_len { (length keys.old ≡ max_terms) × Ascending i.0 keys.old }
     requires d_len { (length d.old ≡ cells) × Table (points (sheet_of sheet.now)) (cell d.old) }
@@ -28,7 +34,7 @@ pub fn pass_term(sheet: &[u8], keys: &mut [u64], d: &mut [u32], i: TermNumber) -
     let key = roots::key_at(sheet, d, i);
     let place = sorted::insert(keys, i.0 as usize, 256 * key + i.0 as u64);
     if key == 0 {
-        return Passed::Still;
+        return Ok(false);
     }
     pass_group(sheet, keys, d, i, place, 256 * key)
 }
@@ -41,21 +47,15 @@ fn pass_group(
     i: TermNumber,
     place: usize,
     least: u64,
-) -> Passed
+) -> Result<bool, Clash>
     requires sized { Sized sheet.now × WellFormed (sheet_of sheet.now) × (i.0 < count_terms (sheet_of sheet.now)) }
     requires place_in_bounds { (place < length keys.now) × Ascending place keys.now × ((q : ℕ) → q < place → get_or keys.now q 0 < least + i.0) }
     requires d_len { (length d.old ≡ cells) × Table (points (sheet_of sheet.now)) (cell d.old) }
     ensures { Passing (sheet_of sheet.now) (GroupTied (sheet_of sheet.now) i.0 keys.now least place) d.old d.new result }
 {
     let mut fresh = false;
-    let mut q = sorted::first_from(keys, place, least);
-    while q < place {
-        match pairs::pass_pair(sheet, d, i, TermNumber((keys[q] - least) as u8)) {
-            Passed::Clash => return Passed::Clash,
-            Passed::New => fresh = true,
-            Passed::Still => {}
-        }
-        q += 1;
+    for q in sorted::first_from(keys, place, least)..place {
+        fresh |= pairs::pass_pair(sheet, d, i, TermNumber((keys[q] - least) as u8))?;
     }
-    pairs::answered(fresh)
+    Ok(fresh)
 }

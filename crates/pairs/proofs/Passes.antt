@@ -2,7 +2,7 @@
 -- Assumes nothing.
 use Prim.Native.Nat.{ℕ, ◌<◌}
 use mathlib.Core.Path.{refl}
-use mathlib.Core.Bool.{Bool, true, false}
+use mathlib.Core.Bool.{Bool, true, false, ◌||◌}
 use mathlib.Core.List.{List}
 use native.Mathlib.Omega.{arith}
 use Rattle.closure.specs.Table.{Table}
@@ -34,14 +34,12 @@ module _ (s : Sheet) where
   sofar-table (same T q) = T
 
   -- one more pass, that tied something or found nothing to do
-  pub more-new : {Q Q' P : Leaves} {old d new : List ℕ} {b : Bool} → Sofar Q old d b → Passing s P d new (Ok true) → Sofar Q' old new true
-  more-new (fresh p l) (tied w k f) = fresh (on p (arrived k w)) (omega arith)
-  more-new (same T q) (tied w k f) = fresh (arrived k w) f
-
-  pub more-still : {Q Q' P : Leaves} {old d new : List ℕ} {b : Bool} → (Q (cell d) → P (cell d) → Q' (cell d))
-      → Sofar Q old d b → Passing s P d new (Ok false) → Sofar Q' old new b
-  more-still f (fresh p l) (still q) = fresh p l
-  more-still f (same T h) (still q) = same T (f h q)
+  pub more : {Q Q' P : Leaves} {old d new : List ℕ} {b r : Bool} → (Q (cell d) → P (cell d) → Q' (cell d))
+      → Sofar Q old d b → Passing s P d new (Ok r) → Sofar Q' old new (b || r)
+  more f (fresh p l) (tied w k m) = fresh (on p (arrived k w)) (omega arith)
+  more f (same T q) (tied w k m) = fresh (arrived k w) m
+  more f (fresh p l) (still q) = fresh p l
+  more f (same T h) (still q) = same T (f h q)
 
   -- what the loop answers
   pub ended : {Q P : Leaves} {old d : List ℕ} {b : Bool} → ((e : ℕ → ℕ → ℕ) → Q e → P e) → Sofar Q old d b → Passing s P old d (passed_of b)
@@ -49,7 +47,7 @@ module _ (s : Sheet) where
   ended f (same T h) = still (f _ h)
 
   -- a clash after some passes is one from the start
-  pub clash-after : {Q P P' : Leaves} {old d new : List ℕ} {b : Bool} {e : Clash} → Sofar Q old d b → Passing s P d new (Err e) → Passing s P' old new (Err e)
+  pub clash-after : {Q P P' : Leaves} {old d new : List ℕ} {b : Bool} {e f : Clash} → Sofar Q old d b → Passing s P d new (Err e) → Passing s P' old new (Err f)
   clash-after (fresh p l) (clash R K) = clash (λ D v D> M q. R D v D> ((p.went refl).met D v D> M q) q) (kept_on p.kept K)
   clash-after (same T h) (clash R K) = clash R K
 
