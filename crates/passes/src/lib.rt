@@ -11,7 +11,7 @@ ghost use Rattle.sheet.specs.Sheet.{WellFormed};
 ghost use Rattle.settled.specs.Settled.{points};
 ghost use Rattle.pairs.specs.Passing.{FunctionsPut, AllTied, Passing};
 
-use pairs::Passed;
+use pairs::Clash;
 use sheet::TermNumber;
 
 // Passes equalities until a pass finds nothing new.
@@ -22,30 +22,23 @@ pub fn settle(sheet: &[u8], d: &mut [u32]) -> bool
 {
     loop {
         match pass(sheet, d) {
-            Passed::Clash => return false,
-            Passed::New => {}
-            Passed::Still => return true,
+            Ok(true) => {}
+            Ok(false) => return true,
+            Err(Clash) => return false,
         }
     }
 }
 
-// One pass over the terms.
-fn pass(sheet: &[u8], d: &mut [u32]) -> Passed
+// One pass over the terms: whether it tied something.
+fn pass(sheet: &[u8], d: &mut [u32]) -> Result<bool, Clash>
     requires sized { Sized sheet.now × WellFormed (sheet_of sheet.now) }
     requires d_len { (length d.old ≡ cells) × Table (points (sheet_of sheet.now)) (cell d.old) }
     ensures { Passing (sheet_of sheet.now) (AllTied (sheet_of sheet.now)) d.old d.new result }
 {
-    let t = reading::count_terms(sheet);
     let mut keys = [0u64; sheet::MAX_TERMS];
     let mut fresh = false;
-    let mut i = 0;
-    while i < t {
-        match groups::pass_term(sheet, &mut keys, d, TermNumber(i as u8)) {
-            Passed::Clash => return Passed::Clash,
-            Passed::New => fresh = true,
-            Passed::Still => {}
-        }
-        i += 1;
+    for i in 0..reading::count_terms(sheet) {
+        fresh |= groups::pass_term(sheet, &mut keys, d, TermNumber(i as u8))?;
     }
-    pairs::answered(fresh)
+    Ok(fresh)
 }

@@ -1,11 +1,9 @@
 -- `passes::pass` meets its contract: the terms before the counter are passed, and their keys listed (proofs/Groups.antt).
 -- Assumes nothing.
-use Prim.Native.Nat.{◌-◌, ◌≤◌}
 use mathlib.Core.Path.{◌≡◌}
 use lib.ListN.{length}
 use Rattle.sheet.specs.Decode.{sheet_of}
 use Rattle.sheet.specs.Limits.{max_terms}
-use Rattle.sheet.specs.Sheet.{count_terms}
 use Rattle.sorted.specs.Inserted.{Ascending}
 use Rattle.pairs.proofs.Passes.{Sofar}
 use Rattle.groups.proofs.Groups.{TermsPassed}
@@ -13,8 +11,4 @@ use Rattle.passes.proofs.pass.Given as goal
 
 abbrev pub invariant-loop-i : goal.invariant-loop-i
 invariant-loop-i l =
-    (l.i ≤ l.t) × (l.t ≡ count_terms (sheet_of l.sheet)) × (length l.d ≡ length l.initial.d) × (length l.keys ≡ max_terms) × Ascending l.i l.keys
-    × Sofar (sheet_of l.sheet) (TermsPassed (sheet_of l.sheet) l.i l.keys) l.initial.d l.d l.fresh
-
-abbrev pub decreases-loop-i : goal.decreases-loop-i
-decreases-loop-i l = l.t - l.i
+    (length l.keys ≡ max_terms) × Ascending l.i l.keys × Sofar (sheet_of l.sheet) (TermsPassed (sheet_of l.sheet) l.i l.keys) l.initial.d l.d l.fresh

@@ -1,33 +1,13 @@
--- `passes::settle` meets its contract: each pass but the last ties something, so that the sum of all cells falls (proofs/Settles.antt).
+-- `passes::settle` meets its contract: what a pass came to, after those before it (proofs/Settles.antt).
 -- Assumes nothing.
-use mathlib.Core.Path.{refl}
-use native.Mathlib.Omega.{arith}
-use Rattle.steps.proofs.Steps.{stayed}
-use Rattle.passes.proofs.Settles.{goes_on, lower, clashes, ended}
+use Rattle.passes.proofs.Settles.{goes_on, clashes, ended}
 use Rattle.passes.proofs.settle.Goals as goal
 
-pub loop-init : goal.loop-init
-loop-init c = (refl, stayed c.requires.d_len.1 tt)
-
-pub pass-requires : goal.pass-requires
-pass-requires c =
-    let loop = c.loop in
-    let pre = c.requires in record {
-      sized = pre.sized;
-      d_len = (omega arith, (loop.invariant.1.went refl).table);
-    }
-
-pub returns-in-Clash : goal.returns-in-Clash
-returns-in-Clash c =
-    clashes _ c.loop.invariant.1 (rw c.in-Clash.is at c.pass.ensures)
-
-pub loop-smaller : goal.loop-smaller
-loop-smaller c = lower _ (rw c.in-New.is at c.pass.ensures)
-
 pub loop-preserved : goal.loop-preserved
-loop-preserved c =
-    (omega arith, goes_on _ c.loop.invariant.1 (rw c.in-New.is at c.pass.ensures))
+loop-preserved c = goes_on _ c.loop.invariant (rw c.in-Ok-true.field-0-test at c.in-Ok-true.ensures)
 
-pub returns-in-Still : goal.returns-in-Still
-returns-in-Still c =
-    ended _ c.loop.invariant.1 (rw c.in-Still.is at c.pass.ensures)
+pub returns-in-Ok-false : goal.returns-in-Ok-false
+returns-in-Ok-false c = ended _ c.loop.invariant (rw c.in-Ok-false.field-0-test at c.in-Ok-false.ensures)
+
+pub returns-in-Err : goal.returns-in-Err
+returns-in-Err c = clashes _ c.loop.invariant c.in-Err.ensures

@@ -1,7 +1,5 @@
 -- `passes::settle` meets its contract: each pass but the last ties something, so that the sum of all cells falls (proofs/Settles.antt).
 -- Assumes nothing.
-use mathlib.Core.Path.{◌≡◌}
-use lib.ListN.{length}
 use Rattle.cells.specs.Cells.{cell}
 use Rattle.sheet.specs.Decode.{sheet_of}
 use Rattle.settled.specs.Settled.{points}
@@ -10,7 +8,7 @@ use Rattle.pairs.proofs.Passes.{Passes}
 use Rattle.passes.proofs.settle.Given as goal
 
 abbrev pub invariant-loop : goal.invariant-loop
-invariant-loop l = (length l.d ≡ length l.initial.d) × Passes (sheet_of l.sheet) l.initial.d l.d
+invariant-loop l = Passes (sheet_of l.sheet) l.initial.d l.d
 
 abbrev pub decreases-loop : goal.decreases-loop
 decreases-loop l = total (points (sheet_of l.sheet)) (cell l.d)
