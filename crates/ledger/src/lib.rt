@@ -49,8 +49,7 @@ fn list_terms(
 {
     let t = reading::count_terms(sheet);
     let mut m = 0;
-    let mut i = 0;
-    while i < t {
+    for i in 0..t {
         let own = TermNumber(i as u8);
         m = list_term(
             froms,
@@ -62,7 +61,6 @@ fn list_terms(
             own,
             reading::term_at(sheet, own),
         );
-        i += 1;
     }
     m
 }
@@ -84,8 +82,7 @@ fn list_entries(
 {
     let l = reading::count_entries(sheet);
     let mut m = from;
-    let mut e = 0;
-    while e < l {
+    for e in 0..l {
         if set[e] {
             let own = EntryNumber(e as u8);
             m = list_entry(
@@ -98,7 +95,6 @@ fn list_entries(
                 reading::entry_at(sheet, own),
             );
         }
-        e += 1;
     }
     m
 }
@@ -141,8 +137,7 @@ fn list_entry(
     let a = entry.a.0;
     let b = entry.b.0;
     let name = e.0 as u16;
-    let relation = entry.relation;
-    match relation {
+    match entry.relation {
         Relation::Equal => pair(froms, tos, codes, names, m, a, b, entry.c, name),
         Relation::Unequal => m,
         Relation::AtMost => single(froms, tos, codes, names, m, a, b, steps::to(entry.c), name),

@@ -1,8 +1,6 @@
 -- `ledger::list_term` meets its contract, kind by kind.
 -- Assumes nothing.
-use Prim.Native.Nat.{ℕ}
-use mathlib.Core.Path.{◌≡◌, refl}
-use mathlib.Core.List.{[]}
+use Rattle.std.proofs.Common.{◌≡◌, ℕ, [], refl}
 use Rattle.sheet.specs.declared.Biased.{Biased}
 use Rattle.sheet.specs.declared.TermNumber.{TermNumber}
 use Rattle.sheet.specs.declared.Term.{Term as Code-Term}
@@ -19,14 +17,6 @@ free (Number c) z i h k = absurd (h c refl)
 free (Shift a c) z i h k = absurd (k a c refl)
 free (Apply s a) z i h k = refl
 free (Apply2 s a b) z i h k = refl
-
-pub returns-in-Number : goal.returns-in-Number
-returns-in-Number c =
-    rw c.in-Number.is c.pair.ensures
-
-pub returns-in-Shift : goal.returns-in-Shift
-returns-in-Shift c =
-    rw c.in-Shift.is c.pair-in-Shift.ensures
 
 pub returns-in_default : goal.returns-in_default
 returns-in_default c = rw (free c.args.t _ _ c.in_default.not-Number c.in_default.not-Shift) nothing_put

@@ -1,6 +1,6 @@
 -- `ledger::pair` meets its contract (proofs/Put.antt).
 -- Assumes nothing.
-use native.Mathlib.Omega.{arith}
+use Rattle.std.proofs.Common.{arith}
 use Rattle.ledger.proofs.Put.{pair_put}
 use Rattle.ledger.proofs.pair.Goals as goal
 

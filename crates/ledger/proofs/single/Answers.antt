@@ -1,6 +1,6 @@
 -- `ledger::single` meets its contract (proofs/Put.antt).
 -- Assumes nothing.
-use native.Mathlib.Omega.{arith}
+use Rattle.std.proofs.Common.{arith}
 use Rattle.ledger.proofs.Put.{single-put}
 use Rattle.ledger.proofs.single.Goals as goal
 
