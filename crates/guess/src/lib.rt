@@ -40,10 +40,8 @@ fn start(m: &mut [usize; MEMORY], n: usize)
     requires { n ≤ places }
     ensures { Worked m.old m.new }
 {
-    let mut i = 0;
-    while i < n {
-        m[i] = 1099511627776 + 1009 * i;
-        i += 1;
+    for (i, level) in m[..n].iter_mut().enumerate() {
+        *level = 1099511627776 + 1009 * i;
     }
 }
 
@@ -53,9 +51,7 @@ fn take(m: &[usize; MEMORY], v: &mut [u64; PLACES], n: usize)
     ensures range { (i : ℕ) → i < n → get_or v.new i 0 < 2 ^ 44 }
     ensures worked { Worked v.old v.new }
 {
-    let mut i = 0;
-    while i < n {
+    for i in 0..n {
         v[i] = (m[i] % notes::TOP) as u64;
-        i += 1;
     }
 }

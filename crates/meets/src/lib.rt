@@ -25,15 +25,7 @@ pub fn check(sheet: &[u8], set: &[bool], d: u64, v: &[u64]) -> bool
     ensures { Decides (Met (sheet_of sheet.now) (marked set.now) d v.now) result }
 {
     let t = reading::count_terms(sheet);
-    if limits(v, t) {
-        if terms(sheet, d, v, t) {
-            entries(sheet, set, d, v, t)
-        } else {
-            false
-        }
-    } else {
-        false
-    }
+    limits(v, t) && terms(sheet, d, v, t) && entries(sheet, set, d, v, t)
 }
 
 // First of all, so that no key overflows. No test jumps, so that several levels can be tested at once.
@@ -43,11 +35,9 @@ fn limits(v: &[u64], t: usize) -> bool
 {
     let zero = v[t];
     let mut near = true;
-    let mut i = 0;
-    while i < t {
+    for i in 0..t {
         let x = v[i];
         near = near & (x <= zero + LIMIT) & (zero <= x + LIMIT);
-        i += 1;
     }
     near
 }
@@ -60,8 +50,7 @@ fn terms(sheet: &[u8], d: u64, v: &[u64], t: usize) -> bool
 {
     let mut keys = [0u64; shelves::KEYS];
     let mut shelves = [false; shelves::SHELVES];
-    let mut i = 0;
-    while i < t {
+    for i in 0..t {
         let x = reading::term_at(sheet, TermNumber(i as u8));
         let level = v[i];
         let input = keys::input_of(v, t, x);
@@ -74,9 +63,7 @@ fn terms(sheet: &[u8], d: u64, v: &[u64], t: usize) -> bool
             level,
             i,
         );
-        if agrees & rules::defined(v, t, d, level, x) {
-            i += 1;
-        } else {
+        if !(agrees & rules::defined(v, t, d, level, x)) {
             return false;
         }
     }
@@ -90,14 +77,10 @@ fn entries(sheet: &[u8], set: &[bool], d: u64, v: &[u64], t: usize) -> bool
     ensures { Decides (EntriesMet (sheet_of sheet.now) (marked set.now) d v.now (count_entries (sheet_of sheet.now))) result }
 {
     let l = reading::count_entries(sheet);
-    let mut e = 0;
-    while e < l {
-        if set[e] {
-            if !rules::entry_true(v, t, d, reading::entry_at(sheet, EntryNumber(e as u8))) {
-                return false;
-            }
+    for e in 0..l {
+        if set[e] && !rules::entry_true(v, t, d, reading::entry_at(sheet, EntryNumber(e as u8))) {
+            return false;
         }
-        e += 1;
     }
     true
 }

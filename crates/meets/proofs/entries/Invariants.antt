@@ -1,6 +1,5 @@
 -- `meets::entries` meets its contract: the entries of the set before the counter are true.
 -- Assumes nothing.
-use Prim.Native.Nat.{◌-◌, ◌≤◌}
 use mathlib.Core.Path.{◌≡◌}
 use Rattle.order.specs.First.{marked}
 use Rattle.sheet.specs.Decode.{sheet_of}
@@ -10,7 +9,4 @@ use Rattle.meets.proofs.entries.Given as goal
 
 abbrev pub invariant-loop-e : goal.invariant-loop-e
 invariant-loop-e l =
-    (l.e ≤ l.l) × (l.l ≡ count_entries (sheet_of l.sheet)) × EntriesMet (sheet_of l.sheet) (marked l.set) l.d l.v l.e
-
-abbrev pub decreases-loop-e : goal.decreases-loop-e
-decreases-loop-e l = l.l - l.e
+    (l.l ≡ count_entries (sheet_of l.sheet)) × EntriesMet (sheet_of l.sheet) (marked l.set) l.d l.v l.e

@@ -1,6 +1,5 @@
 -- `meets::terms` meets its contract: the terms before the counter are as the meaning asks, and their keys are kept.
 -- Assumes nothing.
-use Prim.Native.Nat.{◌-◌}
 use mathlib.Core.Path.{refl}
 use mathlib.Core.Bool.{◌&&◌}
 use lib.ListN.{get_or}
@@ -11,7 +10,7 @@ use Rattle.sheet.specs.Says.{term_says}
 use Rattle.sheet.proofs.Below.{arguments-wider}
 use Rattle.meaning.specs.Meaning.{Defined}
 use Rattle.meaning.specs.Decides.{Decides}
-use Rattle.meaning.proofs.Decides.{shown, refuted}
+use Rattle.meaning.proofs.Decides.{refuted}
 use Rattle.keys.specs.Ready.{Ready}
 use Rattle.shelves.specs.Rows.{RowAgrees}
 use Rattle.rules.proofs.Values.{level-low}
@@ -60,15 +59,10 @@ tests c =
 pub loop-i-init : goal.loop-i-init
 loop-i-init c =
     let pre = c.requires in
-    (omega arith, omega (arith, pre.t_value.0, pre.sized.1.terms), kept-none refl refl, terms-none)
+    (omega (arith, pre.t_value.0, pre.sized.1.terms), kept-none refl refl, terms-none)
 
 pub input_of-input-requires : goal.input_of-input-requires
 input_of-input-requires c = asked c.before.before
-
-pub row-agrees-requires : goal.row-agrees-requires
-row-agrees-requires c =
-    let kept = c.loop-i.invariant.2 in
-    (omega arith, omega arith, kept.sized, kept.shelf, kept.shelved)
 
 pub defined-requires : goal.defined-requires
 defined-requires c =
@@ -78,24 +72,18 @@ defined-requires c =
 pub loop-i-preserved : goal.loop-i-preserved
 loop-i-preserved c =
     let row = c.row-agrees.ensures in
-    let (agrees, own) = (tests c.before.before).yes c.if-agrees-defined.true in (
-      omega arith,
-      c.loop-i.invariant.1,
-      kept_more c.loop-i.invariant.2 (omega arith) (keys c.before.before.before.before.before.before) row.stored row.shelved,
-      terms-more c.loop-i.invariant.3 own (row-functional (keyed-more c.loop-i.invariant.2 (omega arith) (keys c.before.before.before.before.before.before) row.stored) (keys c.before.before.before.before.before.before) agrees),
+    let (agrees, own) = (tests c.before.before).yes c.if-not-agrees-defined.false in (
+      c.loop-i.invariant.0,
+      kept_more c.loop-i.invariant.1 (omega arith) (keys c.before.before.before.before.before.before) row.stored row.shelved,
+      terms-more c.loop-i.invariant.2 own (row-functional (keyed-more c.loop-i.invariant.1 (omega arith) (keys c.before.before.before.before.before.before) row.stored) (keys c.before.before.before.before.before.before) agrees),
     )
 
-pub returns-else-agrees-defined : goal.returns-else-agrees-defined
-returns-else-agrees-defined c =
+pub returns-then-not-agrees-defined : goal.returns-then-not-agrees-defined
+returns-then-not-agrees-defined c =
     let pre = c.requires in
     let row = c.row-agrees.ensures in
-    refuted (λ m. (tests c.before.before).no c.if-agrees-defined.false (
-      functional-row (keyed-more c.loop-i.invariant.2 (omega arith) (keys c.before.before.before.before.before.before) row.stored) (keys c.before.before.before.before.before.before) pre.sized.1
+    refuted (λ m. (tests c.before.before).no c.if-not-agrees-defined.true (
+      functional-row (keyed-more c.loop-i.invariant.1 (omega arith) (keys c.before.before.before.before.before.before) row.stored) (keys c.before.before.before.before.before.before) pre.sized.1
           (rw pre.t_value.0 at pre.t_value.2.near) (omega (arith, pre.t_value.0)) (m.functions c.loop-i.i (omega arith)),
       m.defined c.loop-i.i (omega arith),
     ))
-
-pub returns : goal.returns
-returns c =
-    let met = c.loop-i.invariant.3 in
-    shown (record { defined = λ i l. met.defined i (omega arith); functions = λ i l. met.functions i (omega arith) })

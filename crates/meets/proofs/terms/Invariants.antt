@@ -1,6 +1,6 @@
 -- `meets::terms` meets its contract: the terms before the counter are as the meaning asks, and their keys are kept.
 -- Assumes nothing.
-use Prim.Native.Nat.{◌-◌, ◌≤◌}
+use Prim.Native.Nat.{◌≤◌}
 use Rattle.sheet.specs.Limits.{max_terms}
 use Rattle.sheet.specs.Decode.{sheet_of}
 use Rattle.meets.specs.Parts.{TermsMet}
@@ -9,7 +9,4 @@ use Rattle.meets.proofs.terms.Given as goal
 
 abbrev pub invariant-loop-i : goal.invariant-loop-i
 invariant-loop-i l =
-    (l.i ≤ l.t) × (l.t ≤ max_terms) × Kept (sheet_of l.sheet) l.v l.keys l.shelves l.i × TermsMet (sheet_of l.sheet) l.d l.v l.i
-
-abbrev pub decreases-loop-i : goal.decreases-loop-i
-decreases-loop-i l = l.t - l.i
+    (l.t ≤ max_terms) × Kept (sheet_of l.sheet) l.v l.keys l.shelves l.i × TermsMet (sheet_of l.sheet) l.d l.v l.i
