@@ -1,31 +1,32 @@
 -- Marks that are the same, entry by entry.
 -- Assumes nothing.
-use Prim.Native.Nat.{ℕ, ◌+◌}
+use Prim.Native.Nat.{ℕ, ◌≤◌, ◌<◌}
 use mathlib.Core.Path.{◌≡◌, refl, sym, ◌∙◌, ap}
-use mathlib.Core.Bool.{Bool, true, false, not, beq, true≢false}
+use mathlib.Core.Bool.{Bool, true, false, beq, true≢false}
+use mathlib.Core.List.{List}
+use lib.ListN.{length, get_or, take}
+use lib.Pointwise.{pointwise}
 use native.Mathlib.Omega.{arith}
-use native.Mathlib.Decide.{ℕ_discrete}
-use Rattle.order.specs.First.{Set, Agree}
+use Rattle.std.specs.Cmp.{booleans_Decides}
+use Rattle.std.proofs.lemmas.List.{ext_get_or, get_or-take, length-take-le}
+use Rattle.std.proofs.lemmas.Slice.Eq.{slice_eq-Decides}
+use Rattle.order.specs.First.{marked, Agree}
+use Rattle.meaning.specs.Decides.{Decides}
 
-pub differ : {a b : Bool} → not (beq a b) ≡ true → a ≡ b → ⊥
-differ {a} {b} h e = true≢false (sym h ∙ ap (λ (x : Bool). not (beq x b)) e ∙ itself b)
-  where
-    itself : (b : Bool) → not (beq b b) ≡ false
-    itself true = refl
-    itself false = refl
+-- the first marks of two rows are the same
+module _ (n : ℕ) (xs ys : List Bool) (first : n ≤ length xs) (second : n ≤ length ys) where
+  agree : take n xs ≡ take n ys → Agree n (marked xs) (marked ys)
+  agree e x l = sym (get_or-take n xs x false l) ∙ ap (λ (row : List Bool). get_or row x false) e ∙ get_or-take n ys x false l
 
-pub alike : (a b : Bool) → not (beq a b) ≡ false → a ≡ b
-alike true true h = refl
-alike true false h = absurd (true≢false h)
-alike false true h = absurd (true≢false h)
-alike false false h = refl
+  agreed : Agree n (marked xs) (marked ys) → take n xs ≡ take n ys
+  agreed a =
+      ext_get_or false (take n xs) (take n ys) (length-take-le n xs first ∙ sym (length-take-le n ys second))
+      (λ x h. let l : x < n = omega (arith, length-take-le n xs first) in get_or-take n xs x false l ∙ a x l ∙ sym (get_or-take n ys x false l))
 
-pub agree-more : {e : ℕ} {A B : Set} → Agree e A B → A e ≡ B e → Agree (e + 1) A B
-agree-more {e} {A} {B} h k x l = go (ℕ_discrete x e)
-  where
-    go : Dec (x ≡ e) → A x ≡ B x
-    go (yes p) = rw p k
-    go (no p) = h x (omega arith)
+  pub fronts-told : (r : Bool) → r ≡ pointwise beq (take n xs) (take n ys) → Decides (Agree n (marked xs) (marked ys)) r
+  fronts-told r e =
+      let (to, from) = slice_eq-Decides booleans_Decides (take n xs) (take n ys) r e in
+      record { yes = λ t. agree (to t); no = λ f a. true≢false (sym (from (agreed a)) ∙ f) }
 
 pub same_truth : (a b : Bool) → (a ≡ true → b ≡ true) → (b ≡ true → a ≡ true) → a ≡ b
 same_truth true b f g = sym (f refl)

@@ -88,15 +88,12 @@ fn rises(list: &[u8], entries: u8, listed: &mut [bool]) -> bool
     ensures { RisesSays entries list.now listed.new result }
 {
     let mut least = 0;
-    let mut x = 0;
-    while x < list.len() {
-        let e = list[x];
+    for &e in list {
         if e < least || entries <= e {
             return false;
         }
         listed[e as usize] = true;
         least = e + 1;
-        x += 1;
     }
     true
 }
@@ -109,17 +106,15 @@ fn go_through(sheet: &[u8], listed: &[bool], legs: &mut [u64], steps: &[Step]) -
     let count = stated::count(steps);
     let mut links = [links::ALONE; LINKS];
     let mut paths = [0u64; PATHS];
-    let mut n = 0;
-    while n < count {
+    for n in 0..count {
         let s = stated::step_at(steps, n);
         match upheld::ruling_on(sheet, listed, legs, &links, s) {
             Ruling::Wrong => return Survey::Wrong(n as u8),
             Ruling::Closes => return close(sheet, listed, &links, &paths, steps, n),
             Ruling::Ties => upheld::note(legs, &mut links, &mut paths, n as u8, s),
         }
-        n += 1;
     }
-    Survey::Wrong(n as u8)
+    Survey::Wrong(count as u8)
 }
 
 // A closing step that has no step behind it, and exactly the list's entries.
@@ -152,12 +147,5 @@ fn same(listed: &[bool], entries: &[bool], count: usize) -> bool
     requires { (count ≤ length listed.now) × (count ≤ length entries.now) }
     ensures { Decides (Agree count (marked listed.now) (marked entries.now)) result }
 {
-    let mut e = 0;
-    while e < count {
-        if listed[e] != entries[e] {
-            return false;
-        }
-        e += 1;
-    }
-    true
+    listed[..count] == entries[..count]
 }

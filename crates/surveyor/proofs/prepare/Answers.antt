@@ -1,15 +1,12 @@
 -- `surveyor::prepare` meets its contract: the table decides first, then the list.
 -- Assumes nothing.
 use Prim.Native.Nat.{ℕ}
-use mathlib.Core.Path.{◌≡◌, sym, ap, ◌∙◌}
+use mathlib.Core.Path.{sym, ap, ◌∙◌}
 use Rattle.std.proofs.lemmas.Result.{err_from_is_err_and}
 use native.Mathlib.Omega.{arith}
 use lib.ListN.{length, length-replicate}
-use Rattle.sheet.specs.Limits.{room_needed}
-use Rattle.grounds.specs.Table.{fine, refusal}
 use Rattle.grounds.proofs.Fine.{fine-formed}
 use Rattle.grounds.proofs.Replies.{fine-sheet}
-use Rattle.refusal.specs.Says.{check_says}
 use Rattle.surveyor.specs.Inside.{ReadySays}
 use Rattle.surveyor.proofs.Join.{list-none, list-some, all-fine}
 use Rattle.surveyor.proofs.prepare.Goals as goal
