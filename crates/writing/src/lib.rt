@@ -10,13 +10,20 @@ ghost use Rattle.writing.specs.Head.{Headed};
 // The bytes that both records begin with.
 pub const HEAD: usize = 8;
 
-// Writes the head of a record of size bytes: verdict is 0 for holds and 1 for clashes, count is D or k. It is written as one number: the
+// What a record says of the sheet, and its number in the head.
+#[derive(Clone, Copy, PartialEq, Eq, Debug)]
+pub enum Verdict {
+    Holds = 0,
+    Clashes = 1,
+}
+
+// Writes the head of a record of size bytes: verdict is a Verdict's number, count is D or k. It is written as one number: the
 // length, 1, the verdict, the count and 0 are its digits.
 pub fn head(room: &mut [u8], size: usize, verdict: u8, count: u64)
     requires { (head_length ≤ length room.old) × (size < 65536) × (count < 65536) }
     ensures { Headed room.old room.new size verdict count }
 {
-    let bytes = (size as u64 * 256 + 1) * 256 + verdict as u64;
+    let bytes = (size as u64 * 256 + 1) * 256 + u64::from(verdict);
     big::write(room, 0, 8, (bytes * 65536 + count) * 65536);
 }
 
@@ -27,16 +34,9 @@ pub fn holds(room: &mut [u8], d: u64, v: &[u64], t: usize) -> usize
     ensures written { Recorded room.old room.new v.now d t }
 {
     let size = HEAD + 8 * t;
-    head(room, size, 0, d);
-    let mut i = 0;
-    while i < t {
-        big::write(
-            room,
-            HEAD + 8 * i,
-            8,
-            std::num::wrapping_sub_u64(v[i], v[t]),
-        );
-        i += 1;
+    head(room, size, Verdict::Holds as u8, d);
+    for i in 0..t {
+        big::write(room, HEAD + 8 * i, 8, v[i].wrapping_sub(v[t]));
     }
     size
 }

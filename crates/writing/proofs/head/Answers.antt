@@ -7,4 +7,4 @@ use Rattle.writing.proofs.head.Goals as goal
 pub returns : goal.returns
 returns c =
     let wrote = c.write.ensures in
-    headed (λ k. (c.slice_known-2-1.given k).fits) (omega arith) c.requires.2 (omega (arith, wrote.0)) wrote.1
+    headed (λ k. (c.type_inv.room k).fits) (omega arith) c.requires.2 (omega (arith, wrote.0)) wrote.1
