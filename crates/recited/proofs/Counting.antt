@@ -1,6 +1,6 @@
 -- Steps that follow each other are counted one by one, and those of them that tie.
 -- Assumes nothing.
-use Prim.Native.Nat.{ℕ, suc, ◌+◌, ◌-◌, ◌≤◌, ◌<◌}
+use Prim.Native.Nat.{ℕ, suc, ◌+◌, ◌≤◌, ◌<◌}
 use mathlib.Core.Path.{◌≡◌, refl}
 use mathlib.Core.Bool.{Bool}
 use mathlib.Core.List.{List}
@@ -47,11 +47,6 @@ none_passed r first count ties l =
       from = λ S. record { others = ties; steps = S; sum = omega arith };
     }
 
-some-whole : {r : List ℕ} {at left others : ℕ} → 0 < left → Steps r at left others → Whole r at
-some-whole h (done e) = absurd (omega arith)
-some-whole h (tie W b S) = W
-some-whole h (other W b S) = W
-
 none_left : {r : List ℕ} {at others : ℕ} → Steps r at 0 others → (at ≡ length r) × (others ≡ 0)
 none_left (done h) = (h, refl)
 
@@ -72,8 +67,8 @@ module _ {r : List ℕ} {at end left found more ties : ℕ} (W : Whole r at) (E 
   one-back {others} e (other X b S) = record { others = others; steps = rw (E.whole W) S; sum = omega (arith, A.other b) }
 
 module _ {r : List ℕ} {first count ties at left found : ℕ} (P : Passed r first count ties at left found) where
-  pub one-passed : {end more : ℕ} → 0 < left → Whole r at → Ends r at end → Adds r at found more → Passed r first count ties end (left - 1) more
-  one-passed {end} {more} h W E A =
+  pub one-passed : {end rest more : ℕ} → left ≡ suc rest → Whole r at → Ends r at end → Adds r at found more → Passed r first count ties end rest more
+  one-passed {end} {rest} {more} e W E A =
       record {
         within = ends-within E;
         few = fewer (dec_lt (byte_at r at) 2);
@@ -81,15 +76,9 @@ module _ {r : List ℕ} {first count ties at left found : ℕ} (P : Passed r fir
         from = λ S. let L = P.from S in one-back W E A L.sum (rw e at L.steps);
       }
     where
-      e : left ≡ suc (left - 1)
-      e = omega arith
-
-      fewer : Dec (byte_at r at < 2) → more + (left - 1) ≤ count
+      fewer : Dec (byte_at r at < 2) → more + rest ≤ count
       fewer (yes b) = omega (arith, P.few, A.tie b)
       fewer (no b) = omega (arith, P.few, A.other (omega arith))
-
-  pub not-whole : 0 < left → (Whole r at → ⊥) → Steps r first count ties → ⊥
-  not-whole h w S = w (some-whole h (P.from S).steps)
 
   module _ (e : left ≡ 0) where
     pub all-passed : at ≡ length r → ties ≡ found → Steps r first count ties

@@ -2,6 +2,5 @@ mod Same
 pub mod Recites
 mod First
 mod Reading
-mod Sized
 mod Rows
 pub mod Counting

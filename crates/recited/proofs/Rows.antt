@@ -5,9 +5,9 @@ use mathlib.Core.Path.{◌≡◌, sym, ◌∙◌}
 use mathlib.Core.Bool.{cond}
 use mathlib.Core.List.{List}
 use lib.Dec.{ltb}
-use lib.ListN.{length, get_or, set, replicate, length-set, length-replicate, get_or-replicate}
-use lib.Seq.{get_or-set_same, get_or-set_other, ext_get_or}
-use native.Mathlib.Decide.{dec_lt, ℕ_discrete}
+use lib.ListN.{length, get_or, replicate, length-replicate, get_or-replicate}
+use lib.Seq.{ext_get_or}
+use native.Mathlib.Decide.{dec_lt}
 use native.Mathlib.Omega.{arith}
 use borrow.Author.Tests.{lt-ltb, le-ltb}
 use Rattle.big.specs.Big.{big_of}
@@ -37,20 +37,6 @@ module _ (b : List ℕ) (at count : ℕ) where
       }
 
   module _ {x : ℕ} {row : List ℕ} (F : Filled b at count x row) where
-    pub one-filled : {v : ℕ} → x < 129 → x < count → v ≡ big_of b (at + 2 * x) 2 → Filled b at count (x + 1) (set row x v)
-    one-filled {v} l m e =
-        record {
-          size = simp length-set F.size;
-          few = omega arith;
-          within = omega arith;
-          front = λ k h. front k h (ℕ_discrete k x);
-          rest = λ k h i. get_or-set_other row x k v 0 (λ e. omega arith) ∙ F.rest k (omega arith) i;
-        }
-      where
-        front : (k : ℕ) → k < x + 1 → Dec (k ≡ x) → get_or (set row x v) k 0 ≡ big_of b (at + 2 * k) 2
-        front k h (yes i) = rw i (get_or-set_same row x v 0 (omega (arith, F.size)) ∙ e)
-        front k h (no i) = get_or-set_other row x k v 0 i ∙ F.front k (omega arith)
-
     pub all-filled : (x < 129 → count ≤ x) → row ≡ row_at b at count
     all-filled h =
         ext_get_or 0 row (row_at b at count) (F.size ∙ sym (length-each 129 (bound_at b at count)))

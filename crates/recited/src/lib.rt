@@ -8,7 +8,7 @@ ghost use Rattle.surveyor.specs.Surveyed.{number_of, place_of};
 ghost use Rattle.meaning.specs.Decides.{Decides};
 ghost use Rattle.recited.specs.Recited.{step_head, longest, size_at, Whole, row_at, record_from, blank_of, Recited};
 ghost use Rattle.recited.specs.Recited.{head_length, list_end, Steps, IsRecord};
-ghost use Rattle.recited.specs.Reading.{few, most, Firsts, Counts, Ends, From};
+ghost use Rattle.recited.specs.Reading.{most, Firsts, Counts, Ends, From};
 
 use stated::{Step, WALK};
 use surveyor::Survey;
@@ -26,7 +26,7 @@ pub const STEPS: usize = sheet::MAX_TERMS + 2;
 // As many as most reasons have. An array costs what it has room for, and that of all steps more than a short check does.
 const FEW: usize = 8;
 
-// The kind of a step that isn't whole. There is none of that number.
+// The kind of a step that isn't whole, which stands as a record like each other, for the check to find wrong. There is none of that number.
 const TORN: u8 = 255;
 
 pub fn check(sheet: &[u8], list: &[u8], bytes: &[u8]) -> Survey
@@ -34,57 +34,34 @@ pub fn check(sheet: &[u8], list: &[u8], bytes: &[u8]) -> Survey
 {
     let count = counted(bytes);
     if count <= FEW {
-        check_few(sheet, list, bytes, count)
+        check_up_to::<FEW>(sheet, list, bytes, count)
     } else {
-        check_many(sheet, list, bytes, count)
+        check_up_to::<STEPS>(sheet, list, bytes, count)
     }
 }
 
-fn check_few(sheet: &[u8], list: &[u8], bytes: &[u8], count: usize) -> Survey
-    requires { Counts bytes.now count × (count ≤ few) }
+// The check of a reason with room for N steps.
+fn check_up_to<const N: usize>(sheet: &[u8], list: &[u8], bytes: &[u8], count: usize) -> Survey
+    requires { Counts bytes.now count × (count ≤ N) × (N ≤ most) }
     ensures { Recited sheet.now list.now bytes.now (number_of result) (place_of result) }
 {
-    let steps = first_few(bytes);
-    surveyor::check(sheet, list, &steps[..count])
-}
-
-fn check_many(sheet: &[u8], list: &[u8], bytes: &[u8], count: usize) -> Survey
-    requires { Counts bytes.now count }
-    ensures { Recited sheet.now list.now bytes.now (number_of result) (place_of result) }
-{
-    let steps = first_many(bytes);
+    let steps: [Step; N] = first_steps(bytes);
     surveyor::check(sheet, list, &steps[..count])
 }
 
 // The first steps that the bytes say, and blank ones behind them.
-fn first_few(bytes: &[u8]) -> [Step; 8]
-    ensures { Firsts few bytes.now result }
+fn first_steps<const N: usize>(bytes: &[u8]) -> [Step; N]
+    requires { N ≤ most }
+    ensures { Firsts N bytes.now result }
 {
-    let none = blank(0);
-    let mut steps = [none; 8];
+    let mut steps = [blank(0); N];
     let mut at = 0;
-    let mut n = 0;
-    while n < FEW && at < bytes.len() {
-        let s = step_from(bytes, at);
-        steps[n] = s;
+    for n in 0..N {
+        if at == bytes.len() {
+            break;
+        }
+        steps[n] = step_from(bytes, at);
         at = end(bytes, at);
-        n += 1;
-    }
-    steps
-}
-
-fn first_many(bytes: &[u8]) -> [Step; 130]
-    ensures { Firsts most bytes.now result }
-{
-    let none = blank(0);
-    let mut steps = [none; 130];
-    let mut at = 0;
-    let mut n = 0;
-    while n < STEPS && at < bytes.len() {
-        let s = step_from(bytes, at);
-        steps[n] = s;
-        at = end(bytes, at);
-        n += 1;
     }
     steps
 }
@@ -94,12 +71,13 @@ fn counted(bytes: &[u8]) -> usize
     ensures { Counts bytes.now result }
 {
     let mut at = 0;
-    let mut n = 0;
-    while n < STEPS && at < bytes.len() {
+    for n in 0..STEPS {
+        if at == bytes.len() {
+            return n;
+        }
         at = end(bytes, at);
-        n += 1;
     }
-    n
+    STEPS
 }
 
 // Where the step that begins at `at` ends, all of it or what there is.
@@ -161,8 +139,8 @@ fn whole_from(bytes: &[u8], at: usize) -> Step
         a: bytes[at + 1],
         b: bytes[at + 2],
         c: big::read(bytes, at + 3, 8),
-        first: first,
-        second: second,
+        first,
+        second,
         there: bounds(bytes, at + STEP, first),
         back: bounds(bytes, at + STEP + bounds_size(first), second),
     }
@@ -174,10 +152,8 @@ fn bounds(bytes: &[u8], at: usize, count: u8) -> [u16; 129]
     ensures { result ≡ row_at bytes.now at count }
 {
     let mut row = [0u16; 129];
-    let mut x = 0;
-    while x < count as usize && x < WALK {
+    for x in 0..usize::from(count).min(WALK) {
         row[x] = big::read(bytes, at + 2 * x, 2) as u16;
-        x += 1;
     }
     row
 }
@@ -186,7 +162,7 @@ fn blank(kind: u8) -> Step
     ensures { result ≡ blank_of kind }
 {
     Step {
-        kind: kind,
+        kind,
         a: 0,
         b: 0,
         c: 0,
@@ -228,9 +204,8 @@ fn has_steps(record: &[u8], first: usize, count: u64, ties: u8) -> bool
     ensures { Decides (Steps «record».now first count ties) result }
 {
     let mut at = first;
-    let mut left = count;
     let mut found: usize = 0;
-    while left > 0 {
+    for _ in 0..count {
         if !whole(record, at) {
             return false;
         }
@@ -238,7 +213,6 @@ fn has_steps(record: &[u8], first: usize, count: u64, ties: u8) -> bool
             found += 1;
         }
         at = end(record, at);
-        left -= 1;
     }
     at == record.len() && found == ties as usize
 }

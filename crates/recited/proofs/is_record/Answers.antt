@@ -1,7 +1,6 @@
 -- `recited::is_record` meets its contract: each test is one of a record's conditions (proofs/Counting.antt).
 -- Assumes nothing.
 use native.Mathlib.Omega.{arith}
-use borrow.Author.Tests.{eqb-true, eqb-false, not-true, not-false}
 use Rattle.meaning.proofs.Decides.{refuted}
 use Rattle.recited.proofs.Counting.{steps-within, record-tells}
 use Rattle.recited.proofs.is_record.Goals as goal
@@ -24,4 +23,4 @@ returns-then-record-first c = refuted λ R. omega (arith, steps-within R.steps, 
 pub returns : goal.returns
 returns c =
     record-tells c.args.«record».now c.has_steps.result (omega arith) (omega arith)
-    (eqb-true _ _ (not-false _ c.if-record-ne1.false-raw)) c.list_end-first.ensures c.read-2.ensures.0 c.has_steps.ensures
+    (omega arith) c.list_end-first.ensures c.read-2.ensures.0 c.has_steps.ensures
