@@ -1,9 +1,12 @@
 -- The reason record, byte for byte.
 -- Assumes nothing.
-use Rattle.std.specs.Prelude.{ℕ, suc, ◌+◌, ◌*◌, List, [], ◌∷◌, ◌++◌, length, ℤ, pos}
+use Rattle.std.specs.Prelude.{ℕ, suc, ◌+◌, ◌*◌, ◌<◌, ◌≡◌, Result, MatchResult, List, [], ◌∷◌, ◌++◌, length, ℤ, pos}
 use Rattle.big.specs.Big.{bytes_of, complement_of}
 use Rattle.sheet.specs.Limits.{max_terms, max_entries}
 use Rattle.reasons.specs.Step.{Bound, entry, entry_back, term, term_back, tie, tie_back, Step, by_walks, by_functions, closing_walk, closing_entry}
+use Rattle.paper.specs.declared.StepKind.{StepKind}
+use Rattle.paper.specs.declared.UnknownKind.{UnknownKind}
+use Rattle.paper.specs.declared.StepKind.TheVariants.{ByWalks, ByFunctions, ClosingWalk, ClosingEntry}
 
 -- a bound: its kind, and a number
 abbrev pub bound_bytes : Bound → List ℕ
@@ -17,6 +20,17 @@ bound_bytes (tie_back t) = 5 ∷ t ∷ []
 unfoldable pub walk_bytes : List Bound → List ℕ
 walk_bytes [] = []
 walk_bytes (b ∷ bs) = bound_bytes b ++ walk_bytes bs
+
+-- the number of a step's kind, as code has it
+abbrev pub kind_number : StepKind → ℕ
+kind_number ByWalks = 0
+kind_number ByFunctions = 1
+kind_number ClosingWalk = 2
+kind_number ClosingEntry = 3
+
+-- the kind that a number stands for, or that no kind has it
+abbrev pub KindOf : ℕ → Result StepKind UnknownKind → Type 0
+KindOf number r = MatchResult r (λ kind. kind_number kind ≡ number) (λ e. (e.0 ≡ number) × (3 < number))
 
 -- a step begins with its kind, a, b, c in 8 bytes, two's complement, and the numbers of bounds of its two walks
 unfoldable pub step_head : (kind a b : ℕ) (c : ℤ) (first second : ℕ) → List ℕ

@@ -10,10 +10,39 @@ ghost use Rattle.sheet.specs.Limits.{max_terms};
 ghost use Rattle.sketch.specs.Sketch.{place, ending, bound_named, walk_at, how_of, left_of, right_of, steps_of, tie_step};
 ghost use Rattle.reasons.specs.Step.{by_walks, closing_walk};
 ghost use Rattle.reasons.specs.Pruned.{rank, pruned};
-ghost use Rattle.paper.specs.Record.{head_length, step_length, head_bytes, step_head, step_bytes, steps_bytes, bound_bytes, walk_bytes};
+ghost use Rattle.paper.specs.Record.{head_length, step_length, head_bytes, kind_number, KindOf, step_head, step_bytes, steps_bytes, bound_bytes, walk_bytes};
 ghost use Rattle.paper.specs.Written.{Appended, Lists, ranked_bound, ranked_walk, Ranked, Nameable, Readable};
 
 use sketch::{ENDING, PLACE, TIE};
+
+// The kinds of steps, each with its number in a record.
+#[derive(Clone, Copy, Debug, PartialEq, Eq)]
+pub enum StepKind {
+    ByWalks = 0,
+    ByFunctions = 1,
+    ClosingWalk = 2,
+    ClosingEntry = 3,
+}
+
+// A number that no kind of step has.
+#[derive(Clone, Copy, Debug, PartialEq, Eq)]
+pub struct UnknownKind(pub u8);
+
+impl TryFrom<u8> for StepKind {
+    type Error = UnknownKind;
+
+    ghost try_from_gives = { KindOf };
+
+    fn try_from(number: u8) -> Result<Self, UnknownKind> {
+        match number {
+            0 => Ok(StepKind::ByWalks),
+            1 => Ok(StepKind::ByFunctions),
+            2 => Ok(StepKind::ClosingWalk),
+            3 => Ok(StepKind::ClosingEntry),
+            _ => Err(UnknownKind(number)),
+        }
+    }
+}
 
 // The bytes of a record's head, of a step without its bounds, and of the longest step.
 pub const HEAD: usize = 10;
@@ -31,13 +60,11 @@ pub fn list(room: &mut [u8], marks: &[bool], n: usize) -> usize
     ensures { Lists n (marked marks.now) room.old room.new head_length result }
 {
     let mut k = 0;
-    let mut x = 0;
-    while x < n {
+    for x in 0..n {
         if marks[x] {
             room[HEAD + k] = x as u8;
             k += 1;
         }
-        x += 1;
     }
     k
 }
@@ -62,13 +89,11 @@ pub fn rank(need: &[bool], count: usize, ranks: &mut [u8]) -> usize
     ensures kept { (u : ℕ) → count ≤ u → get_or ranks.new u 0 ≡ get_or ranks.old u 0 }
 {
     let mut k = 0;
-    let mut t = 0;
-    while t < count {
+    for t in 0..count {
         ranks[t] = k as u8;
         if need[t] {
             k += 1;
         }
-        t += 1;
     }
     k
 }
@@ -91,12 +116,10 @@ pub fn ties(
     ensures short { result ≤ from + rank (marked need.now) count * step_length }
 {
     let mut at = from;
-    let mut t = 0;
-    while t < count {
+    for t in 0..count {
         if need[t] {
             at = tie(room, at, t, ties[t], names, ranks, walks);
         }
-        t += 1;
     }
     at
 }
@@ -119,7 +142,7 @@ fn tie(
     let a = sketch::left(tie) as u8;
     let b = sketch::right(tie) as u8;
     if sketch::how(tie) == 0 {
-        return step(room, from, 1, a, b, 0, 0, 0);
+        return step(room, from, StepKind::ByFunctions, a, b, 0, 0, 0);
     }
     by_walks(room, from, a, b, 0, names, ranks, walks, 2 * t)
 }
@@ -140,9 +163,9 @@ pub fn by_walks(
     ensures step { Appended room.old room.new from result (step_bytes (by_walks a b (signed_of 8 c) (ranked_walk ranks.now (walk_at names.now walks.now at)) (ranked_walk ranks.now (walk_at names.now walks.now (at + 1))))) }
     ensures short { result ≤ from + step_length }
 {
-    let first = walks[at * PLACE];
-    let second = walks[(at + 1) * PLACE];
-    let there = step(room, from, 0, a, b, c, first as u8, second as u8);
+    let first = walks[at * PLACE] as u8;
+    let second = walks[(at + 1) * PLACE] as u8;
+    let there = step(room, from, StepKind::ByWalks, a, b, c, first, second);
     let back = walk(room, there, names, ranks, walks, at);
     walk(room, back, names, ranks, walks, at + 1)
 }
@@ -163,7 +186,16 @@ pub fn round(
     ensures short { result ≤ from + step_length }
 {
     let behind = walks[ENDING * PLACE];
-    let at = step(room, from, 2, a, 0, 0, behind as u8 + 1, 0);
+    let at = step(
+        room,
+        from,
+        StepKind::ClosingWalk,
+        a,
+        0,
+        0,
+        behind as u8 + 1,
+        0,
+    );
     let then = bound(room, at, names[e], ranks);
     walk(room, then, names, ranks, walks, ENDING)
 }
@@ -172,7 +204,7 @@ pub fn round(
 pub fn step(
     room: &mut [u8],
     at: usize,
-    kind: u8,
+    kind: StepKind,
     a: u8,
     b: u8,
     c: u64,
@@ -180,9 +212,9 @@ pub fn step(
     second: u8,
 ) -> usize
     requires { at + 13 ≤ length room.old }
-    ensures { Appended room.old room.new at result (step_head kind a b (signed_of 8 c) first second) }
+    ensures { Appended room.old room.new at result (step_head (kind_number kind) a b (signed_of 8 c) first second) }
 {
-    room[at] = kind;
+    room[at] = kind as u8;
     room[at + 1] = a;
     room[at + 2] = b;
     big::write(room, at + 3, 8, c);
@@ -206,11 +238,9 @@ fn walk(
     let first = at * PLACE + 1;
     let k = walks[at * PLACE] as usize;
     let mut end = from;
-    let mut x = 0;
-    while x < k {
+    for x in 0..k {
         let e = walks[first + x] as usize;
         end = bound(room, end, names[e], ranks);
-        x += 1;
     }
     end
 }

@@ -1,8 +1,7 @@
 -- `paper::rank` meets its contract: after t turns, the first t ranks stand.
 -- Assumes nothing.
-use Prim.Native.Nat.{◌+◌, ◌-◌, ◌≤◌}
+use Prim.Native.Nat.{◌+◌, ◌≤◌}
 use mathlib.Core.Path.{◌≡◌, refl, sym, ◌∙◌}
-use lib.ListN.{length-set}
 use lib.Seq.{get_or-set_other}
 use native.Mathlib.Omega.{arith}
 use Rattle.order.specs.First.{marked}
@@ -13,30 +12,20 @@ use Rattle.paper.proofs.rank.Goals as goal
 use Rattle.paper.proofs.rank.Goals.{then-need-t, else-need-t}
 
 pub loop-t-init : goal.loop-t-init
-loop-t-init c = (omega arith, omega arith, refl, sym (rank-zero _), ranked-none _ _, λ u l. refl)
+loop-t-init c = (omega arith, sym (rank-zero _), ranked-none _ _, λ u l. refl)
 
 pub loop-t-preserved : goal.loop-t-preserved
 loop-t-preserved c =
     let loop = c.loop-t in
-    let need = c.args.need.now in
-    let k : (c.if-need-t.k ≤ loop.t + 1) × (c.if-need-t.k ≡ rank (marked need) (loop.t + 1)) =
+    let (below, is, ranks, kept) = loop.invariant in
+    let need = marked c.args.need.now in
+    let k : (c.if-need-t.k ≤ loop.t + 1) × (c.if-need-t.k ≡ rank need (loop.t + 1)) =
     elim c.if-need-t.branch [
-      | then-need-t w ↦ rw w.k-is (omega arith, rank-more _ _ w.if-need-t.true loop.invariant.3)
-      | else-need-t w ↦ rw w.k-is (omega arith, rank_same _ _ w.if-need-t.false loop.invariant.3)
+      | then-need-t w ↦ rw w.k-is (omega arith, rank-more _ _ w.if-need-t.true is)
+      | else-need-t w ↦ rw w.k-is (omega arith, rank_same _ _ w.if-need-t.false is)
     ] in (
       k.0,
-      omega arith,
-      simp length-set loop.invariant.2,
       k.1,
-      ranked-more loop.k (omega arith) loop.invariant.3 loop.invariant.4,
-      λ u l. get_or-set_other loop.ranks loop.t u loop.k 0 (omega arith) ∙ loop.invariant.5 u l,
+      ranked-more loop.k (omega arith) is ranks,
+      λ u l. get_or-set_other loop.ranks loop.t u loop.k 0 (omega arith) ∙ kept u l,
     )
-
-pub returns : goal.returns
-returns c =
-    let loop = c.loop-t in
-    let e : loop.t ≡ c.args.count = omega arith in record {
-      answer = rw e at loop.invariant.3;
-      ranks = rw e at loop.invariant.4;
-      kept = loop.invariant.5;
-    }

@@ -1,6 +1,6 @@
 -- `paper::ties` meets its contract: after t turns, the steps of the needed ones of the first t ties are written.
 -- Assumes nothing.
-use Prim.Native.Nat.{◌+◌, ◌*◌, ◌-◌, ◌≤◌}
+use Prim.Native.Nat.{◌+◌, ◌*◌, ◌≤◌}
 use Rattle.order.specs.First.{marked}
 use Rattle.reasons.specs.Pruned.{rank, pruned}
 use Rattle.sketch.specs.Sketch.{steps_of}
@@ -10,8 +10,5 @@ use Rattle.paper.proofs.ties.Given as goal
 
 abbrev pub invariant-loop-t : goal.invariant-loop-t
 invariant-loop-t l =
-    (l.t ≤ l.count) × (l.at ≤ l.from + rank (marked l.need) l.t * step_length)
+    (l.at ≤ l.from + rank (marked l.need) l.t * step_length)
     × Appended l.initial.room l.room l.from l.at (steps_bytes (pruned (marked l.need) (steps_of l.names l.ties l.walks l.t)))
-
-abbrev pub decreases-loop-t : goal.decreases-loop-t
-decreases-loop-t l = l.count - l.t

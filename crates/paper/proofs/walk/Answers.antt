@@ -1,6 +1,6 @@
 -- `paper::walk` meets its contract: after x turns, the first x bounds are written.
 -- Assumes nothing.
-use Prim.Native.Nat.{◌+◌, ◌*◌, ◌-◌}
+use Prim.Native.Nat.{◌+◌, ◌*◌}
 use mathlib.Core.Path.{◌≡◌}
 use lib.ListN.{get_or, drop, length-drop}
 use lib.Seq.{get_or-drop}
@@ -9,38 +9,20 @@ use Rattle.paper.proofs.Walks.{bound-length, numbered, walk_none, walk_more}
 use Rattle.paper.proofs.walk.Goals as goal
 
 pub loop-x-init : goal.loop-x-init
-loop-x-init c = (omega arith, omega arith, walk_none _ _ _ _)
-
-pub overflow_cast-k : goal.overflow_cast-k
-overflow_cast-k c = omega (arith, c.shared_slice_known-4-1.given (c.args.at * 130))
-
-pub overflow_cast-e : goal.overflow_cast-e
-overflow_cast-e c = omega (arith, c.shared_slice_known-in-loop-x-1.given (c.args.at * 130 + 1 + c.loop-x.x))
-
-pub offset_bounds-names-e : goal.offset_bounds-names-e
-offset_bounds-names-e c =
-    omega (arith, c.shared_slice_known-in-loop-x-1.given (c.args.at * 130 + 1 + c.loop-x.x))
-
-pub bounds-names-e : goal.bounds-names-e
-bounds-names-e c = c.requires.1.listed c.loop-x.x c.loop-x-test.true
-
-pub bound-end-requires : goal.bound-end-requires
-bound-end-requires c =
-    (omega (arith, c.loop-x.invariant.2.size), c.requires.1.named c.loop-x.x c.loop-x-test.true)
+loop-x-init c = (omega arith, walk_none _ _ _ _)
 
 pub loop-x-preserved : goal.loop-x-preserved
 loop-x-preserved c =
     let wrote = c.bound-end in
     let x = c.loop-x.x in
     let first = c.args.at * 130 + 1 in (
-      omega arith,
       omega (arith, simp bound-length at wrote.ensures.end_is),
       walk_more _ _ (drop first c.args.walks.now) x _ (simp length-drop (omega (arith, c.requires.1.short, c.requires.1.there)))
-          (get_or-drop first c.args.walks.now x 0) c.loop-x.invariant.2 wrote.ensures,
+          (get_or-drop first c.args.walks.now x 0) c.loop-x.invariant.1 wrote.ensures,
     )
 
 pub returns : goal.returns
 unfolding numbered
 returns c =
     let e : c.loop-x.x ≡ get_or c.args.walks.now (c.args.at * 130) 0 = omega arith in
-    rw e at c.loop-x.invariant.2
+    rw e at c.loop-x.invariant.1
