@@ -7,9 +7,6 @@ use Rattle.paper.proofs.Bounds.{other-bytes, tie-bytes}
 use Rattle.paper.proofs.bound.Goals as goal
 use Rattle.paper.proofs.bound.Goals.{then-name-ge-TIE, else-name-ge-TIE}
 
-pub bounds-ranks-number : goal.bounds-ranks-number
-bounds-ranks-number c = c.requires.1.earlier (omega arith)
-
 pub returns : goal.returns
 returns c =
     elim c.if-name-ge-TIE.branch [

@@ -3,7 +3,6 @@
 use mathlib.Core.Path.{refl}
 use lib.ListN.{length-set}
 use native.Mathlib.Omega.{arith}
-use borrow.Author.Rules.{rules}
 use Rattle.paper.specs.Record.{head_bytes}
 use Rattle.paper.proofs.Pieces.{two_bytes, number, then}
 use Rattle.paper.proofs.head.Goals as goal
@@ -19,6 +18,3 @@ returns c =
     (two_bytes _ 4 5 6 _ _ refl refl (omega arith) refl))
     (number 8 refl (simp length-set (omega arith)) (λ k. (c.slice_known-3-1.given k).fits) c.write-2.auto.out c.write-2.ensures))
     (number 10 refl (omega arith) (λ k. (c.slice_known-4-1.given k).fits) c.write-3.auto.out c.write-3.ensures)
-
-pub write-requires-3 : goal.write-requires-3
-write-requires-3 c = (omega (arith, simp length-set at c.write-2.auto.out), search rules)

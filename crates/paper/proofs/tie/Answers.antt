@@ -3,10 +3,8 @@
 use Prim.Native.Nat.{◌+◌, ◌*◌}
 use mathlib.Core.Path.{◌≡◌}
 use native.Mathlib.Omega.{arith}
-use borrow.Author.Rules.{rules}
 use Rattle.sketch.specs.Sketch.{how_of, walk_at}
 use Rattle.paper.specs.Written.{ranked_walk}
-use Rattle.paper.proofs.Walks.{more-ties}
 use Rattle.paper.proofs.Steps.{by-functions, by-walks}
 use Rattle.paper.proofs.tie.Goals as goal
 
@@ -17,15 +15,5 @@ returns-then-how-eq0 c =
     (ranked_walk c.args.ranks.now (walk_at c.args.names.now c.args.walks.now (2 * c.args.t + 1))) zero c.left-a.ensures c.right-b.ensures c.step.ensures in
     record { step = both.0; short = both.1 }
 
-pub by_walks-requires : goal.by_walks-requires
-by_walks-requires c =
-    let far = c.requires.step_length_in_bounds.2 in
-    let (there, back) = c.requires.readable (omega (arith, c.how.ensures, c.if-how-eq0.false)) in
-    (search rules, more-ties far there, more-ties far back)
-
-pub returns : goal.returns
-returns c =
-    let wrote = c.by_walks.ensures in record {
-      step = by-walks _ _ (omega (arith, c.how.ensures, c.if-how-eq0.false)) c.left-a.ensures c.right-b.ensures wrote.step;
-      short = wrote.short;
-    }
+pub returns-clause-step : goal.returns-clause-step
+returns-clause-step c = by-walks _ _ (omega (arith, c.how.ensures, c.if-how-eq0.false)) c.left-a.ensures c.right-b.ensures c.by_walks.ensures.step
