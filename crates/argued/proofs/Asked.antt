@@ -3,20 +3,19 @@
 use Rattle.std.proofs.Common.{◌≡◌, ℕ, ◌+◌, ◌*◌, ◌%◌, ◌<◌, ◌≤◌, Bool, List, length, get_or, ap, arith}
 use Rattle.closure.specs.Closed.{TiedAt}
 use Rattle.cells.specs.Cells.{stride, cells, cell}
-use Rattle.sheet.specs.Decode.{Sized, sheet_of}
+use Rattle.sheet.specs.Decode.{sheet_of}
 use Rattle.sheet.specs.declared.Entry.{Entry as Code-Entry}
 use Rattle.sheet.specs.Says.{biased_says, entry_says}
-use Rattle.sheet.specs.Sheet.{Entry, Sheet, count_terms, count_entries, entry_at, WellFormed}
+use Rattle.sheet.specs.Sheet.{Entry, Sheet, count_terms, count_entries, entry_at}
 use Rattle.settled.specs.Settled.{points}
 use Rattle.layers.specs.Bounds.{bounds, Sound, Reachable}
 use Rattle.layers.proofs.Rests.{reachable, sound-fewer, way_back}
 use Rattle.ties.specs.Ties.{Broken}
 use Rattle.forest.specs.Labels.{Labelled}
-use Rattle.laid.specs.Laid.{Laid}
 use Rattle.needed.specs.Needed.{Gathered}
 use Rattle.sketch.specs.Sketch.{place, walks_length}
 use Rattle.drafted.specs.Ending.{NamesBelow, Legible}
-use Rattle.drafted.proofs.Named.{few-ties, ledger-name, name_below}
+use Rattle.drafted.proofs.Named.{few-ties, few-more-ties, name_below}
 use Rattle.drafted.proofs.Readings.{ties-legible}
 use Rattle.paper.specs.Written.{Nameable, Readable}
 use Rattle.argued.specs.Draft.{Ready, Writable}
@@ -44,6 +43,11 @@ module _ {sheet froms tos codes names ties labels best room : List ℕ} {m liste
   -- marks for all ties that bounds name
   pub names-fit : (u b : ℕ) → 128 ≤ u → b < listed → 1024 ≤ get_or names b 0 → get_or names b 0 % 256 < u
   names-fit u b l h g = omega (arith, few, (name_below Y.formed Y.drafted b h).earlier g)
+
+  -- what the memory of ties, marks and walks has to hold
+  pub memory : (need : List Bool) (walks : List ℕ) → length need ≡ stride → length walks ≡ walks_length →
+      (length ties ≡ stride) × (length labels ≡ cells) × (count ≤ count_terms s) × (count ≤ length need) × (walks_length ≤ length walks)
+  memory need walks n w = (Y.all-ties, Y.all-labels, few-ties Y.formed Y.drafted, omega (arith, few, n), omega (arith, w))
 
   module _ {t : ℕ} (e : t ≡ count_terms s) where
     pub points-few : t + 1 ≤ stride
@@ -89,6 +93,10 @@ module _ {sheet froms tos codes names ties labels best room : List ℕ} {m liste
 
   pub on_tied : Broken (cell best) (entry_at (sheet_of sheet) x) → TiedAt (cell best) entry.a.0 entry.b.0 (biased_says entry.c)
   on_tied B = (rw (← E) at B).tied
+
+  -- so there are fewer ties than terms, where those don't have them in one group
+  pub few-more : (cell labels count entry.a.0 ≡ cell labels count entry.b.0 → ⊥) → count < 128
+  few-more apart = omega (arith, few-more-ties Y.formed Y.drafted left< right< apart, Y.formed.terms)
 
   module _ {t : ℕ} (e : t ≡ count_terms (sheet_of sheet)) where
     pub labelled : Labelled (t + 1) ties labels count

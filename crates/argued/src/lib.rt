@@ -17,15 +17,16 @@ ghost use Rattle.meaning.specs.Meaning.{Clashes};
 ghost use Rattle.settled.specs.Settled.{points, Apart};
 ghost use Rattle.ties.specs.Ties.{Broken, BrokenAt};
 ghost use Rattle.reasons.specs.Step.{closing_walk};
-ghost use Rattle.reasons.specs.Pruned.{pruned};
+ghost use Rattle.reasons.specs.Pruned.{rank, pruned};
 ghost use Rattle.sketch.specs.Sketch.{bound_named, place, ending, walk_at, steps_of};
 ghost use Rattle.drafted.specs.Drafted.{Drafted};
 ghost use Rattle.drafted.specs.Ending.{path_steps, tie_steps};
-ghost use Rattle.paper.specs.Record.{reason_room};
-ghost use Rattle.paper.specs.Written.{Nameable, Readable};
+ghost use Rattle.paper.specs.Record.{head_length, step_length, steps_bytes, reason_room};
+ghost use Rattle.paper.specs.Written.{Appended, Ranked, Nameable, Readable};
 ghost use Rattle.argued.specs.Draft.{Ready, Writable};
 ghost use Rattle.argued.specs.Argued.{StepsWritten, Closed, Argued};
 
+use paper::StepKind;
 use sheet::EntryNumber;
 use sketch::ENDING;
 
@@ -64,29 +65,27 @@ pub fn argue(sheet: &[u8], room: &mut [u8], marks: &[bool], d: &mut [u32]) -> us
             sheet, room, k, &froms, &tos, &codes, &names, m, listed, &ties, &labels, count, put, d,
         );
     }
-    let e = EntryNumber(broken(sheet, marks, d) as u8);
+    let e = broken(sheet, marks, d);
     by_entry(
         sheet, room, k, &froms, &tos, &codes, &names, m, listed, &ties, &labels, count, e, d,
     )
 }
 
 // The lowest ≠ entry of the set on terms tied at exactly its c, where there is one.
-fn broken(sheet: &[u8], set: &[bool], d: &[u32]) -> usize
+fn broken(sheet: &[u8], set: &[bool], d: &[u32]) -> EntryNumber
     requires sized { Sized sheet.now × WellFormed (sheet_of sheet.now) }
     requires sheet_in_bounds { (count_entries (sheet_of sheet.now) ≤ length set.now) × (length d.now ≡ cells) }
     requires closed_table { ClosedTable (points (sheet_of sheet.now)) (reach (points (sheet_of sheet.now))) (cell d.now) }
     requires fact { Apart (sheet_of sheet.now) (marked set.now) (cell d.now) → ⊥ }
-    ensures { (result < count_entries (sheet_of sheet.now)) × BrokenAt (sheet_of sheet.now) (marked set.now) (cell d.now) result }
+    ensures { (result.0 < count_entries (sheet_of sheet.now)) × BrokenAt (sheet_of sheet.now) (marked set.now) (cell d.now) result.0 }
 {
-    let l = reading::count_entries(sheet);
-    let mut e = 0;
-    while e < l {
-        if ties::broken_at(sheet, set, d, EntryNumber(e as u8)) {
-            return e;
+    for e in 0..reading::count_entries(sheet) {
+        let entry = EntryNumber(e as u8);
+        if ties::broken_at(sheet, set, d, entry) {
+            return entry;
         }
-        e += 1;
     }
-    e
+    unreachable!()
 }
 
 // The steps, where bound e closes a walk under zero: they close whichever list this is a draft of.
@@ -169,10 +168,40 @@ fn by_entry(
         sheet, froms, tos, codes, names, m, listed, ties, labels, count, best, &mut need,
         &mut walks,
     );
-    let c = std::num::wrapping_sub_u64(entry.c.0 as u64, 32768);
+    let c = u64::from(entry.c.0).wrapping_sub(32768);
     write_tie(
         room, k, ties, count, &need, names, &walks, entry.a.0, entry.b.0, c, e,
     )
+}
+
+// The needed ties behind a list of k entries, by their ranks: how many they are, and where their steps end.
+fn write_ties(
+    room: &mut [u8],
+    k: usize,
+    ties: &[u32],
+    count: usize,
+    need: &[bool],
+    names: &[u16],
+    walks: &[u16],
+    ranks: &mut [u8],
+) -> (usize, usize)
+    requires { Writable room.old ties.now names.now walks.now need.now k count × (count ≤ length ranks.old) }
+    ensures ranked { Ranked (marked need.now) ranks.new count × (result.0 ≡ rank (marked need.now) count) × (result.0 ≤ count) }
+    ensures steps { Appended room.old room.new (head_length + k) result.1 (steps_bytes (pruned (marked need.now) (steps_of names.now ties.now walks.now count))) }
+    ensures short { result.1 ≤ head_length + k + result.0 * step_length }
+{
+    let kept = paper::rank(need, count, ranks);
+    let at = paper::ties(
+        room,
+        paper::HEAD + k,
+        ties,
+        count,
+        need,
+        names,
+        ranks,
+        walks,
+    );
+    (kept, at)
 }
 
 // The needed ties, the closing walk from a over bound e and the walk of the ending, and the head.
@@ -192,17 +221,7 @@ fn write_round(
     ensures { StepsWritten k (pruned (marked need.now) (steps_of names.now ties.now walks.now count ++ closing_walk a (bound_named (slice_index names.now e) ∷ walk_at names.now walks.now ending) ∷ [])) room.old room.new result }
 {
     let mut ranks = [0u8; cells::STRIDE];
-    let kept = paper::rank(need, count, &mut ranks);
-    let at = paper::ties(
-        room,
-        paper::HEAD + k,
-        ties,
-        count,
-        need,
-        names,
-        &ranks,
-        walks,
-    );
+    let (kept, at) = write_ties(room, k, ties, count, need, names, walks, &mut ranks);
     let end = paper::round(room, at, a, e, names, &ranks, walks);
     paper::head(room, end, kept, k, kept + 1);
     end
@@ -223,18 +242,8 @@ fn write_path(
     ensures { StepsWritten k (pruned (marked need.now) (path_steps names.now ties.now walks.now count e.0)) room.old room.new result }
 {
     let mut ranks = [0u8; cells::STRIDE];
-    let kept = paper::rank(need, count, &mut ranks);
-    let at = paper::ties(
-        room,
-        paper::HEAD + k,
-        ties,
-        count,
-        need,
-        names,
-        &ranks,
-        walks,
-    );
-    let end = paper::step(room, at, 3, e.0, 0, 0, 0, 0);
+    let (kept, at) = write_ties(room, k, ties, count, need, names, walks, &mut ranks);
+    let end = paper::step(room, at, StepKind::ClosingEntry, e.0, 0, 0, 0, 0);
     paper::head(room, end, kept, k, kept + 1);
     end
 }
@@ -258,19 +267,9 @@ fn write_tie(
     ensures { StepsWritten k (pruned (marked need.now) (tie_steps names.now ties.now walks.now count a b (signed_of 8 c) e.0)) room.old room.new result }
 {
     let mut ranks = [0u8; cells::STRIDE];
-    let kept = paper::rank(need, count, &mut ranks);
-    let at = paper::ties(
-        room,
-        paper::HEAD + k,
-        ties,
-        count,
-        need,
-        names,
-        &ranks,
-        walks,
-    );
+    let (kept, at) = write_ties(room, k, ties, count, need, names, walks, &mut ranks);
     let tied = paper::by_walks(room, at, a, b, c, names, &ranks, walks, ENDING);
-    let end = paper::step(room, tied, 3, e.0, 0, 0, 0, 0);
+    let end = paper::step(room, tied, StepKind::ClosingEntry, e.0, 0, 0, 0, 0);
     paper::head(room, end, kept + 1, k, kept + 2);
     end
 }

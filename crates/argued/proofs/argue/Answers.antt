@@ -156,8 +156,8 @@ returns-then-put-listed c = record {
   kept = kept_on c.grow-g.ensures.kept c.by_round.ensures.kept;
 }
 
-pub broken-requires : goal.broken-requires
-broken-requires c =
+pub broken-e-requires : goal.broken-e-requires
+broken-e-requires c =
     let Y = all-put (ready c.before.before.before.before) c.if-put-listed.false in
     let pre = c.requires in record {
       sized = (Y.sized, Y.formed);
@@ -169,7 +169,7 @@ broken-requires c =
 pub by_entry-requires : goal.by_entry-requires
 by_entry-requires c = record {
   ready = all-put (ready c.before.before.before.before.before.before.before.before.before.before.before.before.before) c.if-put-listed.false;
-  e_bound = (c.broken.ensures.0, c.broken.ensures.1.1);
+  e_bound = (c.broken-e.ensures.0, c.broken-e.ensures.1.1);
 }
 
 pub shape_of-d : goal.shape_of-d
@@ -178,6 +178,6 @@ shape_of-d c =
 
 pub returns : goal.returns
 returns c = record {
-  argued = argued (lists c.before.before.before.before.before.before.before.before.before.before.before.before.before.before.before.before.before.before) (c.by_entry.ensures.closed _ c.broken.ensures.1.0 (draft c.before.before.before.before.before.before.before.before.before.before.before.before.before.before.before.before.before.before));
+  argued = argued (lists c.before.before.before.before.before.before.before.before.before.before.before.before.before.before.before.before.before.before) (c.by_entry.ensures.closed _ c.broken-e.ensures.1.0 (draft c.before.before.before.before.before.before.before.before.before.before.before.before.before.before.before.before.before.before));
   kept = kept_on c.grow-g.ensures.kept c.by_entry.ensures.kept;
 }

@@ -1,16 +1,11 @@
 -- `argued::broken` meets its contract: no entry before the counter is in the set and broken, and some entry is.
 -- Assumes nothing.
-use Rattle.std.proofs.Common.{◌≡◌, ℕ, ◌-◌, ◌<◌, ◌≤◌}
+use Rattle.std.proofs.Common.{ℕ, ◌<◌}
 use Rattle.cells.specs.Cells.{cell}
 use Rattle.order.specs.First.{marked}
 use Rattle.sheet.specs.Decode.{sheet_of}
-use Rattle.sheet.specs.Sheet.{count_entries}
 use Rattle.ties.specs.Ties.{BrokenAt}
 use Rattle.argued.proofs.broken.Given as goal
 
 abbrev pub invariant-loop-e : goal.invariant-loop-e
-invariant-loop-e l =
-    (l.e ≤ l.l) × (l.l ≡ count_entries (sheet_of l.sheet)) × ((k : ℕ) → k < l.e → BrokenAt (sheet_of l.sheet) (marked l.set) (cell l.d) k → ⊥)
-
-abbrev pub decreases-loop-e : goal.decreases-loop-e
-decreases-loop-e l = l.l - l.e
+invariant-loop-e l = (k : ℕ) → k < l.e → BrokenAt (sheet_of l.sheet) (marked l.set) (cell l.d) k → ⊥
