@@ -18,17 +18,15 @@ pub const STRIDE: usize = cells::STRIDE;
 pub const CELLS: usize = cells::CELLS;
 
 // What the codes of a gap and of the same one back add up to.
-const THERE_AND_BACK: u64 = 2 * (gap::ZERO as u64);
+const THERE_AND_BACK: u64 = 2 * gap::ZERO as u64;
 
 // The table of no bounds between n points.
 pub fn start(d: &mut [u32], n: usize)
     requires { (length d.old ≡ cells) × (n ≤ stride) }
     ensures { Started n d.old d.new }
 {
-    let mut i = 0;
-    while i < n {
+    for i in 0..n {
         cells::start_row(d, i, n);
-        i += 1;
     }
 }
 
@@ -39,10 +37,10 @@ pub fn insert(d: &mut [u32], n: usize, a: usize, b: usize, g: Gap) -> bool
     requires table { Table n (cell d.old) }
     ensures { Inserted n d.old d.new a b g.0 result }
 {
-    if cells::gap_at(d, a, b).0 <= g.0 {
+    if cells::gap_at(d, a, b) <= g {
         return true;
     }
-    if g.sum(cells::gap_at(d, b, a)).0 < gap::ZERO {
+    if g.sum(cells::gap_at(d, b, a)) < Gap::ZERO {
         return false;
     }
     relax_rows(d, n, a, b, g);
@@ -59,11 +57,9 @@ fn relax_rows(d: &mut [u32], n: usize, a: usize, b: usize, g: Gap)
     let row = cells::row_of(d, b);
     let from = cells::first_there(&row, n);
     let to = cells::past_there(&row, from, n);
-    let mut i = 0;
-    while i < n {
+    for i in 0..n {
         let via = cells::gap_at(d, i, a).sum(g);
         cells::relax_row(d, i, b, via, &row, from, to);
-        i += 1;
     }
 }
 
@@ -74,7 +70,7 @@ pub fn tied(d: &[u32], a: usize, b: usize) -> Gap
 {
     let to = cells::gap_at(d, a, b).0;
     let back = cells::gap_at(d, b, a).0;
-    if (to % 2 == 0) & (to as u64 + back as u64 == THERE_AND_BACK) {
+    if (to % 2 == 0) & (u64::from(to) + u64::from(back) == THERE_AND_BACK) {
         Gap(to)
     } else {
         Gap::NONE

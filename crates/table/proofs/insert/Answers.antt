@@ -1,20 +1,26 @@
 -- `table::insert` meets its contract: the three answers of proofs/Rows.antt.
 -- Assumes nothing.
+use Rattle.std.proofs.Common.{◌<◌, ◌≤◌, rules}
+use Rattle.kind.specs.Code.{base}
+use Rattle.cells.specs.Cells.{cell}
 use Rattle.table.proofs.Rows.{asked, closing, inserted-held, inserted-not, inserted}
 use Rattle.table.proofs.insert.Goals as goal
 
-pub returns-then-gap_at-g : goal.returns-then-gap_at-g
-returns-then-gap_at-g c =
-    inserted-held _ _ _ _ _ (asked (c.requires.d_len, (c.requires.g_lt_none, c.requires.table))) (rw c.gap_at.ensures at c.if-gap_at-g.true)
+pub returns-then-le : goal.returns-then-le
+returns-then-le c =
+    let held : cell c.args.d.now c.args.a c.args.b ≤ c.args.g.0 = search rules in
+    inserted-held _ _ _ _ _ (asked (c.requires.d_len, (c.requires.g_lt_none, c.requires.table))) held
 
 pub sum-requires : goal.sum-requires
 sum-requires c =
     rw c.gap_at-2.ensures (closing c.args.n c.args.d.now _ _ _ (asked (c.requires.d_len, (c.requires.g_lt_none, c.requires.table))))
 
-pub returns-then-sum-lt-ZERO : goal.returns-then-sum-lt-ZERO
-returns-then-sum-lt-ZERO c =
-    inserted-not _ _ _ _ _ (asked (c.requires.d_len, (c.requires.g_lt_none, c.requires.table))) (rw (c.sum.ensures.code, c.gap_at-2.ensures) at c.if-sum-lt-ZERO.true)
+pub returns-then-lt : goal.returns-then-lt
+returns-then-lt c =
+    let under : c.sum.result.0 < base = search rules in
+    inserted-not _ _ _ _ _ (asked (c.requires.d_len, (c.requires.g_lt_none, c.requires.table))) (rw (c.sum.ensures.code, c.gap_at-2.ensures) at under)
 
 pub returns : goal.returns
 returns c =
-    inserted _ _ _ _ _ (asked (c.requires.d_len, (c.requires.g_lt_none, c.requires.table))) _ (rw (c.sum.ensures.code, c.gap_at-2.ensures) at c.if-sum-lt-ZERO.false) c.relax_rows.ensures
+    let not-under : base ≤ c.sum.result.0 = search rules in
+    inserted _ _ _ _ _ (asked (c.requires.d_len, (c.requires.g_lt_none, c.requires.table))) _ (rw (c.sum.ensures.code, c.gap_at-2.ensures) at not-under) c.relax_rows.ensures

@@ -1,7 +1,7 @@
 -- `table::relax_rows` meets its contract: the rows before the counter are relaxed (proofs/Rows.antt).
 -- Assumes nothing.
-use Prim.Native.Nat.{ℕ, ◌+◌, ◌-◌, ◌≤◌, ◌<◌}
-use mathlib.Core.Path.{◌≡◌, refl, ◌∙◌, ap}
+use Prim.Native.Nat.{ℕ, ◌≤◌, ◌<◌}
+use mathlib.Core.Path.{◌≡◌, ◌∙◌, ap}
 use native.Mathlib.Omega.{arith}
 use Rattle.kind.specs.Code.{sum_of}
 use Rattle.table.proofs.Rows.{none_yet, asked, first, second, skipped, more}
@@ -11,30 +11,16 @@ use Rattle.table.proofs.relax_rows.Goals as goal
 within : {j to n : ℕ} → j < to → to ≤ n → j < n
 within p q = omega arith
 
-next : {i n : ℕ} → i < n → i + 1 ≤ n
-next h = omega arith
-
-less : {i n : ℕ} → i < n → n - (i + 1) < n - i
-less h = omega arith
-
-end : {i n : ℕ} → i ≤ n → n ≤ i → i ≡ n
-end p q = omega arith
-
 up_to : {j n m : ℕ} → j ≤ n → n ≤ m → j ≤ m
 up_to p q = omega arith
 
 pub loop-i-init : goal.loop-i-init
-loop-i-init c = (omega arith, refl, none_yet _ _ _ _ _)
-
-pub gap_at-requires : goal.gap_at-requires
-gap_at-requires c =
-    let size = c.requires.d_len in
-    (c.loop-i.invariant.1 ∙ size.0, within c.loop-i-test.true size.1, within size.2 size.1)
+loop-i-init c = none_yet _ _ _ _ _
 
 pub sum-via-requires : goal.sum-via-requires
 sum-via-requires c =
     rw c.gap_at.ensures
-    (first c.args.n _ _ _ _ (asked (c.requires.d_len, (c.requires.g_lt_none, c.requires.table))) c.loop-i.d c.loop-i.i c.loop-i-test.true c.loop-i.invariant.2)
+    (first c.args.n _ _ _ _ (asked (c.requires.d_len, (c.requires.g_lt_none, c.requires.table))) c.loop-i.d c.loop-i.i c.loop-i-test.true c.loop-i.invariant)
 
 pub relax_row-requires : goal.relax_row-requires
 relax_row-requires c =
@@ -43,28 +29,19 @@ relax_row-requires c =
     let via = c.sum-via.ensures.code ∙ ap (λ (x : ℕ). sum_of x c.args.g.0) c.gap_at.ensures in
     let row = c.row_of-row in
     let i< : c.loop-i.i < c.args.n = c.loop-i-test.true in record {
-      d_len = (c.loop-i.invariant.1 ∙ size.0, within i< size.1, within size.3 size.1, past.ensures.0, up_to past.ensures.1 size.1);
-      by_index = λ j p q. second _ _ _ _ _ (asked (c.requires.d_len, (c.requires.g_lt_none, c.requires.table))) c.loop-i.d c.loop-i.i i< c.loop-i.invariant.2 row.result _ via row.ensures j (within q past.ensures.1);
-      j_bound = λ h j p q. skipped _ _ _ _ _ (asked (c.requires.d_len, (c.requires.g_lt_none, c.requires.table))) c.loop-i.d c.loop-i.i i< c.loop-i.invariant.2 row.result _ via row.ensures h j (within q past.ensures.1);
+      d_len = (c.loop-i.auto.d ∙ size.0, within i< size.1, within size.3 size.1, past.ensures.0, up_to past.ensures.1 size.1);
+      by_index = λ j p q. second _ _ _ _ _ (asked (c.requires.d_len, (c.requires.g_lt_none, c.requires.table))) c.loop-i.d c.loop-i.i i< c.loop-i.invariant row.result _ via row.ensures j (within q past.ensures.1);
+      j_bound = λ h j p q. skipped _ _ _ _ _ (asked (c.requires.d_len, (c.requires.g_lt_none, c.requires.table))) c.loop-i.d c.loop-i.i i< c.loop-i.invariant row.result _ via row.ensures h j (within q past.ensures.1);
     }
-
-pub loop-i-smaller : goal.loop-i-smaller
-loop-i-smaller c = less c.loop-i-test.true
 
 pub loop-i-preserved : goal.loop-i-preserved
 loop-i-preserved c =
     let via = c.sum-via.ensures.code ∙ ap (λ (x : ℕ). sum_of x c.args.g.0) c.gap_at.ensures in
     let row = c.row_of-row in
-    let i< : c.loop-i.i < c.args.n = c.loop-i-test.true in (
-      next i<,
-      c.relax_row.auto.d ∙ c.loop-i.invariant.1,
-      more _ _ _ _ _ (asked (c.requires.d_len, (c.requires.g_lt_none, c.requires.table))) c.loop-i.d c.loop-i.i i< c.loop-i.invariant.2 row.result _ via row.ensures _ _ c.past_there-to.ensures.1 c.first_there-from.ensures.1 c.past_there-to.ensures.2 _
-          c.relax_row.ensures,
-    )
-
-pub shape_of-d : goal.shape_of-d
-shape_of-d c = c.loop-i.invariant.1
+    more _ _ _ _ _ (asked (c.requires.d_len, (c.requires.g_lt_none, c.requires.table))) c.loop-i.d c.loop-i.i c.loop-i-test.true c.loop-i.invariant row.result _ via row.ensures _ _ c.past_there-to.ensures.1 c.first_there-from.ensures.1 c.past_there-to.ensures.2 _
+    c.relax_row.ensures
 
 pub returns : goal.returns
 returns c =
-    rw (end c.loop-i.invariant.0 c.loop-i-test.false) at c.loop-i.invariant.2
+    let end : c.loop-i.i ≡ c.args.n = omega arith in
+    rw end at c.loop-i.invariant

