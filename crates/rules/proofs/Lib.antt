@@ -1,3 +1,1 @@
-pub mod Tests
 pub mod Values
-pub mod Arms

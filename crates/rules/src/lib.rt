@@ -33,8 +33,7 @@ pub fn entry_true(v: &[u64], t: usize, d: u64, e: Entry) -> bool
 {
     let a = e.a.0 as usize;
     let b = e.b.0 as usize;
-    let relation = e.relation;
-    related(v[a], relation, v[b], e.c, d)
+    related(v[a], e.relation, v[b], e.c, d)
 }
 
 // The two sides of an entry in whole numbers, each moved by the 32,768 d by which c is held biased.

@@ -2,13 +2,8 @@
 -- Assumes nothing.
 use lib.ListN.{get_or}
 use Rattle.sheet.specs.Says.{relation_says}
-use Rattle.rules.proofs.Values.{level-low, value-related}
+use Rattle.rules.proofs.Values.{value-related}
 use Rattle.rules.proofs.entry_true.Goals as goal
-
-pub related-requires : goal.related-requires
-related-requires c =
-    let pre = c.requires in
-    (level-low _ pre.0 pre.2, level-low _ pre.0 pre.3, pre.1)
 
 pub returns : goal.returns
 returns c =
