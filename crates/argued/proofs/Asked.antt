@@ -75,12 +75,6 @@ module _ {sheet froms tos codes names ties labels best room : List ℕ} {m liste
         (readable Y.all-names (omega (arith, few)) there, readable Y.all-names (omega (arith, few)) back);
   }
 
--- where no bound was refused, the table has all of them
-pub all-put : {sheet froms tos codes names ties labels best room : List ℕ} {m listed count put k : ℕ} →
-    Ready sheet froms tos codes names ties labels best room m listed count put k → listed ≤ put →
-    Ready sheet froms tos codes names ties labels best room m listed count listed k
-all-put {listed = listed} {put = put} Y l = rw (let e : put ≡ listed = omega (arith, Y.grew.at-most) in e) at Y
-
 -- where the table has all bounds, and an entry on tied terms was read
 module _ {sheet froms tos codes names ties labels best room : List ℕ} {m listed count k : ℕ}
     (Y : Ready sheet froms tos codes names ties labels best room m listed count listed k) (entry : Code-Entry) {x : ℕ}
