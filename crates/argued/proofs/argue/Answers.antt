@@ -8,45 +8,6 @@ use Rattle.argued.proofs.Made.{all-grew, ready}
 use Rattle.argued.proofs.Record.{argued}
 use Rattle.argued.proofs.argue.Goals as goal
 
-pub list-m-requires : goal.list-m-requires
-list-m-requires c =
-    let pre = c.requires in record {
-      sized = (pre.sized.0, pre.sized.1);
-      froms_len = (omega arith, omega arith, omega arith, omega arith);
-      sheet_in_bounds = pre.sheet_in_bounds.0;
-    }
-
-pub grow-g-requires : goal.grow-g-requires
-grow-g-requires c =
-    let pre = c.requires in
-    let W = pre.sized.1 in record {
-      sized = pre.sized;
-      froms_len = (
-        omega (arith, c.list-m.auto.froms),
-        omega (arith, c.list-m.auto.tos),
-        omega (arith, c.list-m.auto.codes),
-        omega (arith, c.list-m.ensures.few, W.terms, W.entries),
-      );
-      sound = c.list-m.ensures.sound;
-    }
-
-pub lay-count-requires : goal.lay-count-requires
-lay-count-requires c =
-    let pre = c.requires in
-    let W = pre.sized.1 in
-    let F = c.grow-g.ensures.grew.ties in record {
-      sized = (pre.sized.0, pre.sized.1);
-      froms_len = (
-        omega (arith, c.grow-g.auto.froms, c.list-m.auto.froms),
-        omega (arith, c.grow-g.auto.tos, c.list-m.auto.tos),
-        omega (arith, c.list-m.auto.names),
-        omega arith,
-        omega arith,
-        omega (arith, c.list-m.ensures.few, W.terms, W.entries, F.listed-is, F.few),
-      );
-      function_ties = F;
-    }
-
 pub by_round-requires : goal.by_round-requires
 by_round-requires c =
     let (z, W, long) = c.requires.sized in
@@ -56,10 +17,6 @@ by_round-requires c =
           (omega (arith, c.lay-count.auto.ties)) (omega (arith, c.lay-count.auto.labels)) (c.grow-g.auto.d ∙ long),
       c.if-put-listed.true,
     )
-
-pub shape_of-d-then-put-listed : goal.shape_of-d-then-put-listed
-shape_of-d-then-put-listed c =
-    c.by_round.auto.best ∙ c.grow-g.auto.d
 
 pub returns-then-put-listed : goal.returns-then-put-listed
 returns-then-put-listed c =
@@ -92,10 +49,6 @@ by_entry-requires c =
           (c.grow-g.auto.d ∙ long);
       e_bound = (c.broken-e.ensures.0, c.broken-e.ensures.1.1);
     }
-
-pub shape_of-d : goal.shape_of-d
-shape_of-d c =
-    c.by_entry.auto.best ∙ c.grow-g.auto.d
 
 pub returns : goal.returns
 returns c =

@@ -48,11 +48,6 @@ gather-requires-clause-ties_len c =
     let Y = c.requires.ready in
     (Y.all-ties, Y.all-labels, few-ties Y.formed Y.drafted, simp length-set (omega (arith, few Y, c.mark.auto.need)), omega arith)
 
-pub gather-requires-clause-by_index : goal.gather-requires-clause-by_index
-gather-requires-clause-by_index c =
-    let Y = c.requires.ready in
-    ledger-name Y.formed Y.drafted
-
 pub write_path-requires : goal.write_path-requires
 write_path-requires c =
     let Y = c.requires.ready in
@@ -90,12 +85,6 @@ both-requires c =
       );
       by_index = λ b h g. names-fit Y stride b (omega arith) h g;
     }
-
-pub bounds-need-count-2 : goal.bounds-need-count-2
-bounds-need-count-2 c = omega (arith, few c.requires.ready)
-
-pub overflow_add-need : goal.overflow_add-need
-overflow_add-need c = omega (arith, few c.requires.ready)
 
 pub bounds-need-count-3 : goal.bounds-need-count-3
 bounds-need-count-3 c =

@@ -6,7 +6,7 @@ use Rattle.cells.proofs.Keeps.{kept_on}
 use Rattle.sheet.specs.Decode.{sheet_of}
 use Rattle.settled.specs.Settled.{points}
 use Rattle.sketch.specs.Sketch.{walks_length}
-use Rattle.drafted.proofs.Named.{name_below, ledger-name}
+use Rattle.drafted.proofs.Named.{name_below}
 use Rattle.drafted.proofs.Ready.{none-marked}
 use Rattle.argued.proofs.Asked.{nameable, few, memory, names-fit, points-few, round-asks, writable}
 use Rattle.argued.proofs.Closing.{round-marked, round-readable, round-closes}
@@ -27,11 +27,6 @@ bounds-need-count c = omega (arith, few c.requires.0)
 pub gather-requires-clause-ties_len : goal.gather-requires-clause-ties_len
 gather-requires-clause-ties_len c =
     memory c.requires.0 _ _ (simp length-set (omega (arith, c.round.auto.need))) (omega (arith, c.round.auto.walks))
-
-pub gather-requires-clause-by_index : goal.gather-requires-clause-by_index
-gather-requires-clause-by_index c =
-    let Y = c.requires.0 in
-    ledger-name Y.formed Y.drafted
 
 pub write_round-requires : goal.write_round-requires
 write_round-requires c =
