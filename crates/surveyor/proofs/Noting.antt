@@ -30,7 +30,8 @@ use Rattle.strides.proofs.Told.{trodden-start}
 use Rattle.linked.proofs.Known.{known_start, known_next}
 use Rattle.linked.proofs.Ties.{few-ties}
 use Rattle.traced.proofs.Told.{traced-start, traced-next}
-use Rattle.upheld.specs.Ruled.{RightTie}
+use Rattle.upheld.specs.Ruled.{Asked, RightTie}
+use Rattle.basis.specs.Basis.{Lent}
 use Rattle.surveyor.specs.Inside.{Begun, Passed, TiesLaid}
 use Rattle.surveyor.proofs.Marking.{all-blank}
 
@@ -98,6 +99,27 @@ none_passed B = record {
   traced = traced-start;
   formed = λ t l. absurd (omega arith);
 }
+
+-- what is lent to the check of the next step, and behind a closing one
+module _ {sheet before legs links paths : List ℕ} {listed : List Bool} {records : List Record} {n : ℕ} (B : Begun sheet listed before)
+    (P : Passed (sheet_of sheet) listed records n legs links paths) where
+  pub asked : Asked sheet legs links
+  asked = record {
+    sized = B.sized;
+    well-formed = B.well-formed;
+    legs-size = P.known.legs-are.size;
+    links-size = P.known.links-are.size;
+    rising = P.known.links-are.rising;
+  }
+
+  pub lent : Lent sheet links paths
+  lent = record {
+    sized = B.sized;
+    well-formed = B.well-formed;
+    links-size = P.known.links-are.size;
+    rising = P.known.links-are.rising;
+    paths-size = P.traced.size;
+  }
 
 module _ {s : Sheet} {listed : List Bool} {records : List Record} {n : ℕ} {legs links paths : List ℕ} {r : Record} (wf : WellFormed s)
     (l : n < length records) (same : r ≡ record_at records n) (P : Passed s listed records n legs links paths)

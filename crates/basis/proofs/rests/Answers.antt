@@ -7,19 +7,7 @@ use lib.ListN.{length}
 use native.Mathlib.Omega.{arith}
 use borrow.Author.Rules.{rules}
 use Rattle.basis.proofs.Resting.{entry-within, terms-rest, applied, inputs-rest, named-few, walks-few, walks-rest}
-use Rattle.basis.proofs.rests.Lts as lts
-use Rattle.basis.proofs.rests.Reads as reads
-use Rattle.basis.proofs.rests.Tie as tie
 use Rattle.basis.proofs.rests.Goals as goal
-
-abbrev Start : Type 0
-Start = lts.Start tie.the-claims reads.Pre reads.Post
-
-there-long : (c : Start) → length c.args.s.there ≡ 129
-there-long c = search rules
-
-back_long : (c : Start) → length c.args.s.back ≡ 129
-back_long c = search rules
 
 pub between_inputs-requires : goal.between_inputs-requires
 between_inputs-requires c =
@@ -35,12 +23,14 @@ between_terms-requires c =
 pub of_walk-first-requires : goal.of_walk-first-requires
 of_walk-first-requires c =
     let few = walks-few c.requires.0.well-formed c.requires.1.stands c.in_default.in_default-own.rest.0.1 c.in_default.in_default-own.rest.1 in
-    (omega (arith, few, there-long c.before.before.before.before.before.before.before.before), λ t A. named-few c.requires.0.well-formed c.requires.1.stands (inl A))
+    let long : length c.args.s.there ≡ 129 = search rules in
+    (omega (arith, few), λ t A. named-few c.requires.0.well-formed c.requires.1.stands (inl A))
 
 pub of_walk-second-requires : goal.of_walk-second-requires
 of_walk-second-requires c =
     let few = walks-few c.requires.0.well-formed c.requires.1.stands c.in_default.in_default-own.rest.0.1 c.in_default.in_default-own.rest.1 in
-    (omega (arith, few, back_long c.before.before.before.before.before.before.before.before.before.before), λ t A. named-few c.requires.0.well-formed c.requires.1.stands (inr A))
+    let long : length c.args.s.back ≡ 129 = search rules in
+    (omega (arith, few), λ t A. named-few c.requires.0.well-formed c.requires.1.stands (inr A))
 
 pub returns-in-1 : goal.returns-in-1
 returns-in-1 c =

@@ -1,4 +1,4 @@
--- `surveyor::check` meets its contract, over the derivation that is carried over from a sister by tools/sister.py.
+-- `surveyor::check` meets its contract.
 -- Assumes nothing.
 use Rattle.surveyor.proofs.Join.{check-early, check-ready, check-told}
 use Rattle.surveyor.proofs.check.Goals as goal

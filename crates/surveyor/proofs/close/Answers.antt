@@ -1,4 +1,4 @@
--- `surveyor::close` meets its contract, over the derivation that is carried over from a sister by tools/sister.py.
+-- `surveyor::close` meets its contract.
 -- Assumes nothing.
 use mathlib.Core.Path.{refl}
 use mathlib.Core.Bool.{false}
