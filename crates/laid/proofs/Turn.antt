@@ -18,12 +18,12 @@ use Rattle.walked.specs.Borne.{Exact}
 use Rattle.layers.specs.Bounds.{bounds, Listed}
 use Rattle.sketch.specs.Sketch.{how_of, left_of, right_of, left, right}
 use Rattle.forest.proofs.Few.{few-more}
-use Rattle.grown.specs.Grown.{FunctionTie}
+use Rattle.grown.specs.Grown.{FunctionTie, FunctionTies}
 use Rattle.laid.specs.Laid.{OfFunctions, ByWalks, IsTie}
 use Rattle.laid.specs.Longer.{Pushed, Longer, Are, ArgumentsTied}
 use Rattle.laid.proofs.Longer.{parts, longer-one}
 use Rattle.laid.proofs.Tables.{listed_more, tied-more, tied-zero, group-tied}
-use Rattle.laid.proofs.Laying.{Laying, Named}
+use Rattle.laid.proofs.Laying.{Laying, Named, function-tie}
 
 -- a tie of functions, by the row of labels as it was before
 functions-by : {s : Sheet} {ties labels : List ℕ} {u a b : ℕ} (row : ℕ → ℕ) → WellFormed s → Are a b (left ties u) (right ties u)
@@ -200,18 +200,23 @@ module _ {s : Sheet} {froms tos codes old names ties labels : List ℕ} {m e t :
           tied = tied;
         }
 
--- one turn, over n points
-module _ {n : ℕ} {s : Sheet} {froms tos codes old names ties labels : List ℕ} {m e t : ℕ} (wf : WellFormed s) (same : n ≡ points s)
-    (L : Laying s froms tos codes old names ties labels m e t) (F : FunctionTie s froms tos codes e) {ties' labels' : List ℕ} {t' : ℕ}
-    (A : ArgumentsTied s n (get_or froms e 0) (get_or tos e 0) e t ties labels ties' labels' t') where
+-- one turn, over n points, where bound e goes from i to j
+module _ {n i j : ℕ} {s : Sheet} {froms tos codes old names ties labels : List ℕ} {m e t listed : ℕ} (wf : WellFormed s) (same : n ≡ points s)
+    (L : Laying s froms tos codes old names ties labels m e t) (T : FunctionTies s froms tos codes m listed) (l : e < listed)
+    (i-is : i ≡ get_or froms e 0) (j-is : j ≡ get_or tos e 0) {ties' labels' : List ℕ} {t' : ℕ}
+    (A : ArgumentsTied s n i j e t ties labels ties' labels' t') where
+  F : FunctionTie s froms tos codes e
+  F = function-tie L T l
+
   A' : ArgumentsTied s (points s) (get_or froms e 0) (get_or tos e 0) e t ties labels ties' labels' t'
-  A' = rw same at A
+  A' = rw (same, i-is, j-is) at A
 
   pub room : t' + 1 < stride
   room = omega (arith, wf.terms, few-more A'.longer.labelled (from< L F A') (to< L F A') (apart L F A'))
 
   pub turned : {names' ties'' labels'' : List ℕ} {r : ℕ} → length ties' ≡ stride → Named names names' e t'
-      → Pushed n t' (get_or froms e 0) (get_or tos e 0) 0 ties' labels' ties'' labels'' r → Laying s froms tos codes old names' ties'' labels'' m (e + 2) r
-  turned l N P =
+      → Pushed n t' i j 0 ties' labels' ties'' labels'' r → Laying s froms tos codes old names' ties'' labels'' m (e + 2) r
+  turned long N P =
       one_more L F A' wf N P.count
-      (longer-one (omega (arith, wf.terms)) (omega (arith, room)) (from< L F A') (to< L F A') A'.longer.labelled (apart L F A') (rw same at P))
+      (longer-one (omega (arith, wf.terms)) (omega (arith, room)) (from< L F A') (to< L F A') A'.longer.labelled (apart L F A')
+      (rw (same, i-is, j-is) at P))

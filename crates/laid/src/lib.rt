@@ -14,6 +14,7 @@ ghost use Rattle.grown.specs.Grown.{FunctionTies};
 ghost use Rattle.laid.specs.Laid.{Laid};
 ghost use Rattle.laid.specs.Longer.{Pushed, TiedUp, Alike, ArgumentsTied};
 
+use sheet::{Term, TermNumber};
 use sketch::{BACK, TIE};
 
 // Lays the ties of the functions that are listed from bound m on, and names these bounds by their ties' numbers; how many ties there are.
@@ -37,15 +38,13 @@ pub fn lay(
     let n = reading::count_terms(sheet) + 1;
     forest::start(labels, n);
     let mut t = 0;
-    let mut e = m;
-    while e < listed {
-        let i = froms[e] as usize;
-        let j = tos[e] as usize;
+    for e in (m..listed).step_by(2) {
+        let i = usize::from(froms[e]);
+        let j = usize::from(tos[e]);
         t = arguments(sheet, ties, labels, n, t, i, j, e);
         names[e] = TIE + t as u16;
         names[e + 1] = TIE + BACK + t as u16;
         t = push(ties, labels, n, t, i, j, 0);
-        e += 2;
     }
     t
 }
@@ -66,13 +65,19 @@ fn arguments(
     requires ties_len { (length ties.old ≡ stride) × (length labels.old ≡ cells) × (e < most) × Labelled n ties.old labels.old t }
     ensures { ArgumentsTied (sheet_of sheet.now) n i j e t ties.old labels.old ties.new labels.new result }
 {
-    let f = reading::fields_at(sheet, 6 + 6 * i);
-    let g = reading::fields_at(sheet, 6 + 6 * j);
-    let u = tie_up(ties, labels, n, t, f.a as usize, g.a as usize, e);
-    if f.kind == 3 {
-        return u;
+    let own = reading::term_at(sheet, TermNumber(i as u8));
+    let other = reading::term_at(sheet, TermNumber(j as u8));
+    match (own, other) {
+        (Term::Apply(_, a), Term::Apply(_, b)) => {
+            tie_up(ties, labels, n, t, a.0 as usize, b.0 as usize, e)
+        }
+        (Term::Apply2(_, a, c), Term::Apply2(_, b, d)) => {
+            let u = tie_up(ties, labels, n, t, a.0 as usize, b.0 as usize, e);
+            tie_up(ties, labels, n, u, c.0 as usize, d.0 as usize, e)
+        }
+        // Terms with the same input are applications, to one argument both or to two.
+        _ => unreachable!(),
     }
-    tie_up(ties, labels, n, u, f.b as usize, g.b as usize, e)
 }
 
 // Ties a and b by walks over the first e bounds, where they are in different groups.
