@@ -48,6 +48,7 @@ fn walk(m: &mut [usize; MEMORY], i: usize, base: usize) -> Option<usize>
         }
         m[MARKS + x] = base + i;
         let by = m[BY + x];
+        // the memory is numbers, and no bound stands at 0
         if by == 0 {
             return None;
         }

@@ -23,6 +23,7 @@ pub fn pass(m: &mut [usize; MEMORY], before: usize, base: usize) -> usize
     let mut end = before;
     for k in 0..sheet::MAX_TERMS {
         let application = m[APPLICATIONS + k];
+        // the memory is numbers, and no application is 0
         if application == 0 {
             return end;
         }
