@@ -1,13 +1,12 @@
--- Whether a pair is left to tie: what is known of a term, and of all, when none was found.
+-- No pair is left to tie: what is known of the table when none was found.
 -- Assumes nothing.
 use Prim.Native.Nat.{ℕ, ◌<◌}
-use mathlib.Core.Path.{◌≡◌, refl}
-use mathlib.Core.Logic.{⊎_elim}
+use mathlib.Core.Path.{refl}
 use mathlib.Core.Bool.{Bool, true, false}
 use lib.Dec.{eqb}
 use lib.IntN.{pos}
-use native.Mathlib.Nat.{eq-or-lt_of_le}
 use native.Mathlib.Omega.{arith}
+use Rattle.std.specs.Prelude.{None}
 use Rattle.kind.specs.Code.{base}
 use Rattle.closure.specs.Closed.{Closed, TiedAt, tie_of}
 use Rattle.closure.specs.Table.{reach}
@@ -17,30 +16,7 @@ use Rattle.settled.specs.Settled.{points}
 use Rattle.ties.proofs.Tests.{tied-told}
 use Rattle.pairs.specs.Passing.{PairTied}
 use Rattle.pairs.proofs.Pairs.{saturated}
-use Rattle.matched.specs.Matched.{Untied, Partner, First}
-
-module _ {s : Sheet} {d : ℕ → ℕ → ℕ} where
-  -- the search for a partner of i
-  pub partner-found : {i j : ℕ} → j < i → Untied s d i j → Partner s d i j
-  partner-found l U = record { at-most = omega arith; found = λ h. U; none = λ e. absurd (omega arith) }
-
-  pub partner-none : {i : ℕ} → ((j : ℕ) → j < i → Untied s d i j → ⊥) → Partner s d i i
-  partner-none N = record { at-most = omega arith; found = λ h. absurd (omega arith); none = λ e. N }
-
-  -- the search for a term that has one
-  pub first_found : {i j : ℕ} → i < count_terms s → j < i → Partner s d i j → First s d i
-  first_found {j = j} i< l P =
-      record { at-most = omega arith; found = λ h. (j, l, P.found l); none = λ e. absurd (omega arith) }
-
-  -- so a term that was found first has a partner
-  pub partner-there : {i j : ℕ} → i < count_terms s → First s d i → Partner s d i j → (j < i) × Untied s d i j
-  partner-there {i} {j} i< F P = ⊎_elim none some (eq-or-lt_of_le {n = j} {m = i} P.at-most)
-    where
-      none : j ≡ i → (j < i) × Untied s d i j
-      none e = let u = F.found i< in absurd (P.none e u.0 u.1 u.2)
-
-      some : j < i → (j < i) × Untied s d i j
-      some l = (l, P.found l)
+use Rattle.matched.specs.Matched.{Untied, First}
 
 -- a tie at 0 is looked up, so what isn't untied is tied
 tied-unless : {n : ℕ} {d : ℕ → ℕ → ℕ} {i j : ℕ} → Closed n (reach n) d → i < n → j < n → ((TiedAt d i j (pos 0) → ⊥) → ⊥) → TiedAt d i j (pos 0)
@@ -55,10 +31,5 @@ pair-tied : {s : Sheet} {d : ℕ → ℕ → ℕ} {i j : ℕ} → Closed (points
 pair-tied C i< j< N = record { tied = λ J. tied-unless C (omega arith) (omega arith) (λ U. N (record { joined = J; untied = U })) }
 
 pub first-none : {s : Sheet} {d : ℕ → ℕ → ℕ} → Closed (points s) (reach (points s)) d
-    → ((i : ℕ) → i < count_terms s → (j : ℕ) → j < i → Untied s d i j → ⊥) → First s d (count_terms s)
-first-none {s} {d} C N =
-    record {
-      at-most = omega arith;
-      found = λ h. absurd (omega arith);
-      none = λ e. saturated s d C (record { each = λ i i<. record { each = λ j j<. pair-tied C i< j< (N i i< j j<) } });
-    }
+    → ((i : ℕ) → i < count_terms s → (j : ℕ) → j < i → Untied s d i j → ⊥) → First s d None
+first-none {s} {d} C N = saturated s d C (record { each = λ i i<. record { each = λ j j<. pair-tied C i< j< (N i i< j j<) } })

@@ -1,7 +1,8 @@
 -- Two terms of the same input that a table doesn't tie.
 -- Assumes nothing.
-use Rattle.std.specs.Prelude.{ℕ, ◌≤◌, ◌<◌, ◌≡◌, pos}
+use Rattle.std.specs.Prelude.{ℕ, ◌<◌, pos, Option, Some, None}
 use Rattle.closure.specs.Closed.{TiedAt}
+use Rattle.sheet.specs.declared.TermNumber.{TermNumber}
 use Rattle.sheet.specs.Sheet.{Sheet, count_terms}
 use Rattle.settled.specs.Settled.{Saturated}
 use Rattle.joined.specs.Joined.{JoinedAt}
@@ -11,14 +12,12 @@ pub record Untied (s : Sheet) (d : ℕ → ℕ → ℕ) (i j : ℕ) : Type 0 whe
   pub joined : JoinedAt s d i j
   pub untied : TiedAt d i j (pos 0) → ⊥
 
--- r is such a j below i, or is i, and there is none
-pub record Partner (s : Sheet) (d : ℕ → ℕ → ℕ) (i r : ℕ) : Type 0 where
-  pub at-most : r ≤ i
-  pub found : r < i → Untied s d i r
-  pub none : r ≡ i → (j : ℕ) → j < i → Untied s d i j → ⊥
+-- such a j below i, or there is none
+abbrev pub Partner : Sheet → (ℕ → ℕ → ℕ) → ℕ → Option TermNumber → Type 0
+Partner s d i (Some j) = (j.0 < i) × Untied s d i j.0
+Partner s d i None = (j : ℕ) → j < i → Untied s d i j → ⊥
 
--- r is a term that has a partner, or is T, and the table passes equalities on
-pub record First (s : Sheet) (d : ℕ → ℕ → ℕ) (r : ℕ) : Type 0 where
-  pub at-most : r ≤ count_terms s
-  pub found : r < count_terms s → (j : ℕ) × (j < r) × Untied s d r j
-  pub none : r ≡ count_terms s → Saturated s d
+-- a term that has a partner, and the partner, or the table passes equalities on
+abbrev pub First : Sheet → (ℕ → ℕ → ℕ) → Option (TermNumber × TermNumber) → Type 0
+First s d (Some p) = (p.0.0 < count_terms s) × (p.1.0 < p.0.0) × Untied s d p.0.0 p.1.0
+First s d None = Saturated s d

@@ -14,37 +14,33 @@ ghost use Rattle.matched.specs.Matched.{Untied, Partner, First};
 
 use sheet::{Biased, TermNumber};
 
-// The lowest term that has the input of a lower one and isn't tied to it; T where there is none.
-pub fn first(sheet: &[u8], d: &[u32]) -> usize
+// The lowest term that has the input of a lower one and isn't tied to it, and the lowest such one.
+pub fn first(sheet: &[u8], d: &[u32]) -> Option<(TermNumber, TermNumber)>
     requires sized { Sized sheet.now × WellFormed (sheet_of sheet.now) }
     requires d_len { (length d.now ≡ cells) × Closed (points (sheet_of sheet.now)) (reach (points (sheet_of sheet.now))) (cell d.now) }
     ensures { First (sheet_of sheet.now) (cell d.now) result }
 {
-    let t = reading::count_terms(sheet);
-    let mut i = 0;
-    while i < t {
-        if partner(sheet, d, i) < i {
-            return i;
+    for i in 0..reading::count_terms(sheet) {
+        if let Some(j) = partner(sheet, d, i) {
+            return Some((TermNumber(i as u8), j));
         }
-        i += 1;
     }
-    i
+    None
 }
 
-// The lowest term below i that has its input and isn't tied to it; i where there is none.
-pub fn partner(sheet: &[u8], d: &[u32], i: usize) -> usize
+// The lowest term below i that has its input and isn't tied to it.
+pub fn partner(sheet: &[u8], d: &[u32], i: usize) -> Option<TermNumber>
     requires sized { Sized sheet.now × WellFormed (sheet_of sheet.now) × (i < count_terms (sheet_of sheet.now)) }
     requires d_len { (length d.now ≡ cells) × Closed (points (sheet_of sheet.now)) (reach (points (sheet_of sheet.now))) (cell d.now) }
     ensures { Partner (sheet_of sheet.now) (cell d.now) i result }
 {
-    let mut j = 0;
-    while j < i {
-        if untied(sheet, d, TermNumber(i as u8), TermNumber(j as u8)) {
-            return j;
+    for j in 0..i {
+        let lower = TermNumber(j as u8);
+        if untied(sheet, d, TermNumber(i as u8), lower) {
+            return Some(lower);
         }
-        j += 1;
     }
-    j
+    None
 }
 
 // Whether i and j have the same input and aren't tied.

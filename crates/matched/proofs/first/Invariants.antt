@@ -1,16 +1,10 @@
 -- `matched::first` meets its contract: no term before the counter has a partner.
 -- Assumes nothing.
-use Prim.Native.Nat.{ℕ, ◌-◌, ◌≤◌, ◌<◌}
-use mathlib.Core.Path.{◌≡◌}
+use Prim.Native.Nat.{ℕ, ◌<◌}
 use Rattle.cells.specs.Cells.{cell}
 use Rattle.sheet.specs.Decode.{sheet_of}
-use Rattle.sheet.specs.Sheet.{count_terms}
 use Rattle.matched.specs.Matched.{Untied}
 use Rattle.matched.proofs.first.Given as goal
 
 abbrev pub invariant-loop-i : goal.invariant-loop-i
-invariant-loop-i l =
-    (l.i ≤ l.t) × (l.t ≡ count_terms (sheet_of l.sheet)) × ((k : ℕ) → k < l.i → (j : ℕ) → j < k → Untied (sheet_of l.sheet) (cell l.d) k j → ⊥)
-
-abbrev pub decreases-loop-i : goal.decreases-loop-i
-decreases-loop-i l = l.t - l.i
+invariant-loop-i l = (k : ℕ) → k < l.i → (j : ℕ) → j < k → Untied (sheet_of l.sheet) (cell l.d) k j → ⊥

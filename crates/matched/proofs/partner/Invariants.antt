@@ -1,13 +1,10 @@
 -- `matched::partner` meets its contract: no term before the counter is a partner.
 -- Assumes nothing.
-use Prim.Native.Nat.{ℕ, ◌-◌, ◌≤◌, ◌<◌}
+use Prim.Native.Nat.{ℕ, ◌<◌}
 use Rattle.cells.specs.Cells.{cell}
 use Rattle.sheet.specs.Decode.{sheet_of}
 use Rattle.matched.specs.Matched.{Untied}
 use Rattle.matched.proofs.partner.Given as goal
 
 abbrev pub invariant-loop-j : goal.invariant-loop-j
-invariant-loop-j l = (l.j ≤ l.i) × ((k : ℕ) → k < l.j → Untied (sheet_of l.sheet) (cell l.d) l.i k → ⊥)
-
-abbrev pub decreases-loop-j : goal.decreases-loop-j
-decreases-loop-j l = l.i - l.j
+invariant-loop-j l = (k : ℕ) → k < l.j → Untied (sheet_of l.sheet) (cell l.d) l.i k → ⊥
