@@ -8,8 +8,7 @@ use Rattle.sheet.specs.Sheet.{Term, Sheet, count_terms}
 use Rattle.meaning.specs.Meaning.{one, two}
 use Rattle.ties.proofs.Zero.{tied_back}
 use Rattle.joined.specs.Joined.{Joined, JoinedAt}
-use Rattle.matched.specs.Matched.{Partner, First}
-use Rattle.matched.proofs.Left.{partner-there}
+use Rattle.matched.specs.Matched.{Untied}
 
 -- terms a and b have the same input, and the table doesn't tie them
 pub record Pair (s : Sheet) (d : ℕ → ℕ → ℕ) (a b : ℕ) : Type 0 where
@@ -22,7 +21,5 @@ joined_back : {d : ℕ → ℕ → ℕ} {t u : Term} → Joined d t u → Joined
 joined_back (one p) = one (tied_back p)
 joined_back (two p q) = two (tied_back p) (tied_back q)
 
-pub pair : {s : Sheet} {d : ℕ → ℕ → ℕ} {i j : ℕ} → i < count_terms s → First s d i → Partner s d i j → Pair s d j i
-pair i< F P =
-    let U = partner-there i< F P in
-    record { left< = omega (arith, U.0); right< = i<; joined = joined_back U.1.joined; untied = λ t. U.1.untied (tied_back t) }
+pub pair : {s : Sheet} {d : ℕ → ℕ → ℕ} {i j : ℕ} → (i < count_terms s) × (j < i) × Untied s d i j → Pair s d j i
+pair F = record { left< = omega (arith, F.0, F.1); right< = F.0; joined = joined_back F.2.joined; untied = λ t. F.2.untied (tied_back t) }

@@ -15,7 +15,7 @@ use Rattle.closure.proofs.Order.{code-tight}
 use Rattle.cells.specs.Cells.{cell}
 use Rattle.sheet.specs.Limits.{max_terms, max_entries}
 use Rattle.sheet.specs.Sheet.{Sheet, count_terms}
-use Rattle.settled.specs.Settled.{points, Saturated}
+use Rattle.settled.specs.Settled.{points}
 use Rattle.walked.specs.Borne.{Exact}
 use Rattle.layers.specs.Bounds.{bounds, Sound, Listed}
 use Rattle.rests.specs.Rested.{Rested}
@@ -44,18 +44,6 @@ all_in {m = m} {r = r} R l = let e : r ≡ m = omega (arith, R.at-most) in rw e 
 no-ties : {s : Sheet} {m : ℕ} {froms tos codes : List ℕ} → FunctionTies s froms tos codes m m
 no-ties = record { count = 0; few = omega arith; listed-is = omega arith; tie = λ k l. absurd (omega arith) }
 
-pub refused : {s : Sheet} {m r : ℕ} {froms tos codes old new : List ℕ} → Sound (points s) (bounds m froms tos codes)
-    → Rested (points s) m froms tos codes 0 old new r → r < m → Grew s froms tos codes m (cell new) m r
-refused S R l =
-    record {
-      ties = no-ties;
-      sound = S;
-      at-most = R.at-most;
-      exact = R.exact;
-      shut = R.shut;
-      saturated = λ e. absurd (omega arith);
-    }
-
 pub begun : {s : Sheet} {m : ℕ} {froms tos codes d : List ℕ} → (length froms ≡ most) × (length tos ≡ most) × (length codes ≡ most)
     → Sound (points s) (bounds m froms tos codes) → Exact (points s) (Listed (bounds m froms tos codes)) (cell d) → Growing s m froms tos codes d m
 unfolding no-ties
@@ -68,18 +56,6 @@ begun L S X =
       sound = S;
       exact = X;
       groups = alone (omega arith) X.table.closed;
-    }
-
-pub ended : {s : Sheet} {m listed : ℕ} {froms tos codes d : List ℕ} → Growing s m froms tos codes d listed → Saturated s (cell d)
-    → Grew s froms tos codes m (cell d) listed listed
-ended G Z =
-    record {
-      ties = G.ties;
-      sound = G.sound;
-      at-most = omega arith;
-      exact = G.exact;
-      shut = λ l. absurd (omega arith);
-      saturated = λ e. Z;
     }
 
 two-more : {P : ℕ → Type 0} (k : ℕ) → ((e : ℕ) → e < k → P e) → P k → P (k + 1) → (e : ℕ) → e < k + 2 → P e
@@ -99,6 +75,12 @@ pub record Listing (s : Sheet) (m : ℕ) (froms tos codes d : List ℕ) (listed 
   pub froms-length : length froms' ≡ length froms
   pub tos-length : length tos' ≡ length tos
   pub codes-length : length codes' ≡ length codes
+
+pub listing : {s : Sheet} {m listed a b : ℕ} {froms tos codes d froms' tos' codes' : List ℕ} → count_terms s ≤ max_terms → m ≤ 2 * max_terms + 2 * max_entries
+    → Growing s m froms tos codes d listed → Pair s (cell d) a b → Both froms tos codes froms' tos' codes' listed a b (pos 0)
+    → (length froms' ≡ length froms) × (length tos' ≡ length tos) × (length codes' ≡ length codes) → Listing s m froms tos codes d listed a b froms' tos' codes'
+listing h l G P B E =
+    record { growing = G; pair = P; both = B; fits = room h l G P; froms-length = E.0; tos-length = E.1; codes-length = E.2 }
 
 module _ {s : Sheet} {m listed a b : ℕ} {froms tos codes d froms' tos' codes' : List ℕ}
     (L : Listing s m froms tos codes d listed a b froms' tos' codes') where

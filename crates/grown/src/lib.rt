@@ -43,10 +43,7 @@ pub fn grow(
     table::start(d, n);
     let put = rests::put(d, n, froms, tos, codes, 0, m);
     if put < m {
-        return Grown {
-            listed: m,
-            put: put,
-        };
+        return Grown { listed: m, put };
     }
     tie_all(sheet, d, froms, tos, codes, m)
 }
@@ -68,24 +65,18 @@ fn tie_all(
     ensures front { Front m froms.old tos.old codes.old froms.new tos.new codes.new }
     ensures kept { Kept (points (sheet_of sheet.now)) d.old d.new }
 {
-    let t = reading::count_terms(sheet);
+    let n = reading::count_terms(sheet) + 1;
     let mut listed = m;
-    let mut i = matched::first(sheet, d);
-    while i < t {
-        let j = matched::partner(sheet, d, i);
-        jotted::both(froms, tos, codes, listed, j as u8, i as u8, Biased::ZERO);
-        let put = rests::put(d, t + 1, froms, tos, codes, listed, listed + 2);
+    while let Some((i, j)) = matched::first(sheet, d) {
+        jotted::both(froms, tos, codes, listed, j.0, i.0, Biased::ZERO);
+        let put = rests::put(d, n, froms, tos, codes, listed, listed + 2);
         listed += 2;
         if put < listed {
-            return Grown {
-                listed: listed,
-                put: put,
-            };
+            return Grown { listed, put };
         }
-        i = matched::first(sheet, d);
     }
     Grown {
-        listed: listed,
+        listed,
         put: listed,
     }
 }

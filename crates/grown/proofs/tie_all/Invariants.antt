@@ -1,21 +1,18 @@
--- `grown::tie_all` meets its contract: before each turn the table has all that is listed, and the next pair is looked for.
+-- `grown::tie_all` meets its contract: before each turn the table has all that is listed.
 -- Assumes nothing.
 use Prim.Native.Nat.{◌-◌}
-use mathlib.Core.Path.{◌≡◌}
-use lib.ListN.{length}
-use Rattle.cells.specs.Cells.{cells, cell, Kept}
+use Rattle.cells.specs.Cells.{Kept}
 use Rattle.sheet.specs.Decode.{sheet_of}
 use Rattle.settled.specs.Settled.{points}
 use Rattle.jotted.specs.Jotted.{most}
-use Rattle.matched.specs.Matched.{First}
 use Rattle.grown.specs.Grown.{Front}
 use Rattle.grown.proofs.Growing.{Growing}
 use Rattle.grown.proofs.tie_all.Given as goal
 
 abbrev pub invariant-loop-i : goal.invariant-loop-i
 invariant-loop-i l =
-    (length l.d ≡ cells) × Growing (sheet_of l.sheet) l.m l.froms l.tos l.codes l.d l.listed × Front l.m l.initial.froms l.initial.tos l.initial.codes l.froms l.tos l.codes
-    × Kept (points (sheet_of l.sheet)) l.initial.d l.d × First (sheet_of l.sheet) (cell l.d) l.i
+    Growing (sheet_of l.sheet) l.m l.froms l.tos l.codes l.d l.listed × Front l.m l.initial.froms l.initial.tos l.initial.codes l.froms l.tos l.codes
+    × Kept (points (sheet_of l.sheet)) l.initial.d l.d
 
 abbrev pub decreases-loop-i : goal.decreases-loop-i
 decreases-loop-i l = most - l.listed
