@@ -36,12 +36,10 @@ fn levels(d: &[u32], n: usize, v: &mut [u64])
     requires { (length d.now ≡ cells) × (n ≤ stride) × (n ≤ length v.old) × Closed n (reach n) (cell d.now) }
     ensures { (i : ℕ) → i < n → get_or v.new i 0 ≡ level_of n (reach n) (cell d.now) i }
 {
-    let mut i = 0;
-    while i < n {
+    for i in 0..n {
         // Where there is no gap: 2 R + 1 above the row's least, where R is n * 32,768.
         let other = (n as u64) * 65536 + 1 + least(d, i, n);
         v[i] = (n as u64) * total(d, i, n, other) + (lowest(d, i) as u64);
-        i += 1;
     }
 }
 
@@ -50,12 +48,10 @@ fn lowest(d: &[u32], i: usize) -> usize
     requires { (length d.now ≡ cells) × (i < stride) × ((k : ℕ) → k < i → 0 < cell d.now k i) }
     ensures { (result ≡ lowest_of (cell d.now) i) × (result ≤ i) }
 {
-    let mut k = 0;
-    while k < i {
-        if table::tied(d, i, k).0 < gap::NONE {
+    for k in 0..i {
+        if table::tied(d, i, k) < Gap::NONE {
             return k;
         }
-        k += 1;
     }
     i
 }
@@ -65,11 +61,9 @@ fn total(d: &[u32], i: usize, n: usize, other: u64) -> u64
     requires { (length d.now ≡ cells) × (i < stride) × (n ≤ stride) × (other ≤ none) }
     ensures { (result ≡ sum_to n (λ s. term_of other (cell d.now i s))) × (result ≤ n * none) }
 {
-    let mut sum: u64 = 0;
-    let mut s = 0;
-    while s < n {
-        sum += term(other, cells::gap_at(d, i, s).0);
-        s += 1;
+    let mut sum = 0;
+    for s in 0..n {
+        sum += term(other, cells::gap_at(d, i, s));
     }
     sum
 }
@@ -80,21 +74,19 @@ fn least(d: &[u32], i: usize, n: usize) -> u64
     ensures { (result ≡ least_of n (cell d.now i)) × (result ≤ half) }
 {
     let mut m = Gap::ZERO;
-    let mut s = 0;
-    while s < n {
+    for s in 0..n {
         m = m.tighter(cells::gap_at(d, i, s));
-        s += 1;
     }
-    term(0, m.0)
+    term(0, m)
 }
 
 // The whole number of a gap that is there, from the bias `half` up, or another number: a difference of two loses the bias.
-fn term(other: u64, g: u32) -> u64
+fn term(other: u64, g: Gap) -> u64
     requires { other ≤ none }
-    ensures { (result ≡ term_of other g) × (result ≤ none) }
+    ensures { (result ≡ term_of other g.0) × (result ≤ none) }
 {
-    if g < gap::NONE {
-        (g as u64 + 1) / 2
+    if g < Gap::NONE {
+        (u64::from(g.0) + 1) / 2
     } else {
         other
     }

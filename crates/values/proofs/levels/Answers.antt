@@ -1,9 +1,9 @@
 -- `values::levels` meets its contract: after i turns, the first i levels stand, each by the formula of levels' specs/Level.antt, which fits.
 -- Assumes nothing.
-use Prim.Native.Nat.{ℕ, ◌+◌, ◌*◌, ◌-◌, ◌≤◌, ◌<◌}
-use mathlib.Core.Path.{◌≡◌, refl, ◌∙◌, ap, ap₂}
+use Prim.Native.Nat.{ℕ, ◌+◌, ◌*◌, ◌≤◌, ◌<◌}
+use mathlib.Core.Path.{◌≡◌, ◌∙◌, ap, ap₂}
 use mathlib.Core.List.{List}
-use lib.ListN.{length, get_or, set, length-set}
+use lib.ListN.{length, get_or, set}
 use lib.Seq.{get_or-set_same, get_or-set_other}
 use native.Mathlib.Nat.{mul-le-mul}
 use native.Mathlib.Omega.{arith}
@@ -26,30 +26,14 @@ product n t h k = mul-le-mul {n₂ = stride} {m₂ = stride * none} h (omega ari
 more : (f : ℕ → ℕ) (v : List ℕ) (i x : ℕ) → i < length v → x ≡ f i → ((k : ℕ) → k < i → get_or v k 0 ≡ f k) → (k : ℕ) → k < i + 1 → get_or (set v i x) k 0 ≡ f k
 more f v i x l e h = below_more _ i (λ k p. get_or-set_other v i k x 0 (omega arith) ∙ h k p) (get_or-set_same v i x 0 l ∙ e)
 
-pub loop-i-init : goal.loop-i-init
-loop-i-init c = (omega arith, refl, λ k l. absurd (omega arith))
-
 pub overflow_mul-v : goal.overflow_mul-v
 overflow_mul-v c = omega (arith, product _ _ (omega arith) c.total.ensures.1)
-
-pub lowest-requires : goal.lowest-requires
-lowest-requires c =
-    let C = c.requires.3 in
-    (omega arith, omega arith, λ k l. omega (arith, (C.range k c.loop-i.i (omega arith) (omega arith)).low, C.small))
 
 pub overflow_add-v : goal.overflow_add-v
 overflow_add-v c = omega (arith, product _ _ (omega arith) c.total.ensures.1)
 
 pub loop-i-preserved : goal.loop-i-preserved
-loop-i-preserved c = (
-  omega arith,
-  simp length-set (omega arith),
-  more _ c.loop-i.v c.loop-i.i _ (omega arith)
-      (level-is (cell c.args.d.now) _ _ _ _ _ (omega arith) c.total.ensures.0 c.lowest.ensures.0)
-      c.loop-i.invariant.2,
-)
-
-pub returns : goal.returns
-returns c =
-    let end : c.loop-i.i ≡ c.args.n = omega arith in
-    λ i l. c.loop-i.invariant.2 i (omega arith)
+loop-i-preserved c =
+    more _ c.loop-i.v c.loop-i.i _ (omega arith)
+    (level-is (cell c.args.d.now) _ _ _ _ _ (omega arith) c.total.ensures.0 c.lowest.ensures.0)
+    c.loop-i.invariant

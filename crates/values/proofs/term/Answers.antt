@@ -1,12 +1,16 @@
 -- `values::term` meets its contract.
 -- Assumes nothing.
-use mathlib.Core.Path.{sym}
-use native.Mathlib.Omega.{arith}
+use Rattle.std.proofs.Common.{◌<◌, ◌≤◌, sym, arith, rules}
+use Rattle.kind.specs.Code.{none}
 use Rattle.levels.proofs.Rows.{term-there, term-none}
 use Rattle.values.proofs.term.Goals as goal
 
-pub returns-then-g-lt-NONE : goal.returns-then-g-lt-NONE
-returns-then-g-lt-NONE c = (omega (arith, term-there c.args.other c.args.g (omega arith)), omega arith)
+pub returns-then-lt : goal.returns-then-lt
+returns-then-lt c =
+    let there : c.args.g.0 < none = search rules in
+    (omega (arith, term-there c.args.other c.args.g.0 there, c.from.ensures), omega (arith, c.from.ensures))
 
-pub returns-else-g-lt-NONE : goal.returns-else-g-lt-NONE
-returns-else-g-lt-NONE c = (sym (term-none _ _ (omega arith)), omega arith)
+pub returns-else-lt : goal.returns-else-lt
+returns-else-lt c =
+    let not-there : none ≤ c.args.g.0 = search rules in
+    (sym (term-none _ _ not-there), omega arith)

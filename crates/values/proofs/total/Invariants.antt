@@ -1,6 +1,6 @@
 -- `values::total` meets its contract: after s turns, the sum of the first s.
 -- Assumes nothing.
-use Prim.Native.Nat.{◌*◌, ◌-◌, ◌≤◌}
+use Prim.Native.Nat.{◌*◌, ◌≤◌}
 use mathlib.Core.Path.{◌≡◌}
 use Rattle.kind.specs.Code.{none}
 use Rattle.levels.specs.Level.{sum_to, term_of}
@@ -8,7 +8,4 @@ use Rattle.cells.specs.Cells.{cell}
 use Rattle.values.proofs.total.Given as goal
 
 abbrev pub invariant-loop-s : goal.invariant-loop-s
-invariant-loop-s l = (l.s ≤ l.n) × (l.sum ≡ sum_to l.s (λ s. term_of l.other (cell l.d l.i s))) × (l.sum ≤ l.s * none)
-
-abbrev pub decreases-loop-s : goal.decreases-loop-s
-decreases-loop-s l = l.n - l.s
+invariant-loop-s l = (l.sum ≡ sum_to l.s (λ s. term_of l.other (cell l.d l.i s))) × (l.sum ≤ l.s * none)
