@@ -4,7 +4,7 @@
 // The answer is the check's number (one byte) and its place (four bytes).
 #![tactic(auto)]
 
-ghost use Rattle.std.specs.Prelude.{◌+◌, ◌≤◌, ◌≡◌, length, IfOk};
+ghost use Rattle.std.specs.Prelude.{◌+◌, ◌≤◌, ◌≡◌, length, IfOk, IfSome};
 ghost use Rattle.recited.specs.Recited.{longest};
 ghost use Rattle.batch_survey.specs.Reply.{most_steps, Reply};
 
@@ -91,14 +91,11 @@ fn answer_steps(
 {
     let mut bytes = [0u8; ROOM];
     let mut at = 0;
-    let mut n = 0;
-    while n < m {
-        let next = read_step(input, &mut bytes, at)?;
-        if next == at {
+    for _ in 0..m {
+        let Some(end) = read_step(input, &mut bytes, at)? else {
             return Ok(false);
-        }
-        at = next;
-        n += 1;
+        };
+        at = end;
     }
     let mut answer = [0u8; 5];
     reply(sheet, list, &bytes[..at], &mut answer);
@@ -106,20 +103,20 @@ fn answer_steps(
     Ok(true)
 }
 
-// Reads one step to the bytes from `at` on, and answers where it ends: at `at` where the input ends first.
-fn read_step(input: &mut impl Read, bytes: &mut [u8], at: usize) -> io::Result<usize>
+// Reads one step to the bytes from `at` on, and answers where it ends, if it is there before the input ends.
+fn read_step(input: &mut impl Read, bytes: &mut [u8], at: usize) -> io::Result<Option<usize>>
     requires { at + longest ≤ length bytes.old }
-    ensures { IfOk result (λ end. (at ≤ end) × (end ≤ at + longest)) }
+    ensures { IfOk result (λ step. IfSome step (λ end. (at ≤ end) × (end ≤ at + longest))) }
 {
     let bounds = at + recited::STEP;
     if streams::read_full(input, &mut bytes[at..bounds])? < recited::STEP {
-        return Ok(at);
+        return Ok(None);
     }
     let end = at + recited::size(bytes, at);
     if streams::read_full(input, &mut bytes[bounds..end])? < end - bounds {
-        return Ok(at);
+        return Ok(None);
     }
-    Ok(end)
+    Ok(Some(end))
 }
 
 // Number and place of the check.

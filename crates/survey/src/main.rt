@@ -39,14 +39,7 @@ fn sheet_length(bytes: &[u8]) -> usize
         return bytes.len();
     }
     let stated = big::read(bytes, 0, 2) as usize;
-    if stated < 2 {
-        return 2;
-    }
-    if stated < bytes.len() {
-        stated
-    } else {
-        bytes.len()
-    }
+    stated.max(2).min(bytes.len())
 }
 
 // A sheet that is sent back is so whatever stands behind it.
@@ -56,7 +49,7 @@ fn tell_record(rt: &impl Print, sheet: &[u8], record: &[u8]) -> io::Result<()> {
     }
     match recited::check(sheet, &record[..0], &record[..0]) {
         Survey::Refused(why) => print(rt, Survey::Refused(why)),
-        _ => say(rt, b"no reason record\n"),
+        _ => println!(rt; "no reason record"),
     }
 }
 
@@ -71,26 +64,8 @@ fn check_record(sheet: &[u8], record: &[u8]) -> Survey
 
 fn print(rt: &impl Print, told: Survey) -> io::Result<()> {
     match told {
-        Survey::Yes => say(rt, b"yes\n"),
-        Survey::Wrong(n) => {
-            say(rt, b"wrong at ")?;
-            say_number(rt, n)?;
-            say(rt, b"\n")
-        }
-        _ => {
-            say(rt, b"refused ")?;
-            say_number(rt, told.number())?;
-            say(rt, b" at ")?;
-            say_number(rt, told.place())?;
-            say(rt, b"\n")
-        }
+        Survey::Yes => println!(rt; "yes"),
+        Survey::Wrong(n) => println!(rt; "wrong at {n}"),
+        _ => println!(rt; "refused {} at {}", told.number(), told.place()),
     }
-}
-
-fn say(rt: &impl Print, words: &[u8]) -> io::Result<()> {
-    rt.write_all(words)
-}
-
-fn say_number(rt: &impl Print, n: u8) -> io::Result<()> {
-    rt.print(n)
 }
