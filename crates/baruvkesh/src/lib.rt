@@ -31,7 +31,7 @@ pub extern "C" fn baruvkesh_transcribe(text: &[u8], room: &mut [u8]) -> u64
         return u64::MAX;
     }
     let typed = transcript::transcribe(text, room);
-    (typed.number() as u64) * PLACES + (typed.place() as u64)
+    (transcript::number_of(typed) as u64) * PLACES + (transcript::place_of(typed) as u64)
 }
 
 // The answer's number × 2^32 plus its place.

@@ -73,6 +73,6 @@ fn reply(text: &[u8], size: usize, bytes: &mut [u8])
 {
     let end = 5 + size;
     let typed = transcript::transcribe(text, &mut bytes[5..end]);
-    bytes[0] = typed.number();
-    big::write(bytes, 1, 4, typed.place() as u64);
+    bytes[0] = transcript::number_of(typed);
+    big::write(bytes, 1, 4, transcript::place_of(typed) as u64);
 }

@@ -42,10 +42,8 @@ fn records(room: &mut [u8], at: usize, m: &[usize; MEMORY], from: usize, count: 
     requires { (length m.now ≡ memory_cells) × (from + count ≤ memory_cells) × (at + 6 * count ≤ length room.old) }
     ensures { room.new ≡ sets room.old at (in_row record_bytes (cells m.now from count)) }
 {
-    let mut i = 0;
-    while i < count {
+    for i in 0..count {
         big::write(room, at + RECORD * i, RECORD, record(m[from + i]));
-        i += 1;
     }
 }
 

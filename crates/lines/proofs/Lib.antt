@@ -1,4 +1,3 @@
-mod Step
 pub mod Told
 mod Onward
 pub mod Decides

@@ -1,6 +1,6 @@
 -- From line to line: what the whole text comes to.
 -- Assumes nothing.
-use Prim.Native.Nat.{ℕ, suc, ◌+◌, ◌-◌, ◌≤◌, ◌<◌}
+use Prim.Native.Nat.{ℕ, suc, ◌-◌, ◌≤◌, ◌<◌}
 use mathlib.Core.Path.{◌≡◌, refl, sym, ap, ◌∙◌, subst}
 use mathlib.Core.Bool.{Bool, true, false, ◌||◌, ◌&&◌, false≢true}
 use mathlib.Core.List.{List, [], ◌∷◌, ◌++◌}
@@ -9,6 +9,8 @@ use lib.ListN.{length, get_or, take, length-append}
 use lib.Seq.{take_all}
 use native.Mathlib.Omega.{arith}
 use borrow.Author.Tests.{leb-true}
+use Rattle.std.specs.Prelude.{Ok, Err, IsErrAnd}
+use Rattle.std.proofs.lemmas.Result.{err_from_is_err_and}
 use Rattle.sheet.specs.Limits.{max_entries}
 use Rattle.text.specs.Text.{Line}
 use Rattle.text.specs.Print.{print}
@@ -23,14 +25,12 @@ use Rattle.text.specs.Reach.{at}
 use Rattle.text.proofs.Shown.{run-shown}
 use Rattle.text.proofs.Place.{at-start, at_next, IsWhole, is_whole, fault-at}
 use Rattle.slips.specs.declared.Slip.{Slip as Code-Slip}
-use Rattle.slips.specs.declared.Found.{Found}
-use Rattle.slips.specs.declared.Found.TheVariants.{At, Refused}
-use Rattle.slips.specs.Says.{number_of, place_of}
+use Rattle.slips.specs.Outcome.{Found}
 use Rattle.slips.specs.Slips.{max_depth, depth, begun, Slip, FirstSlip}
 use Rattle.slips.specs.Slips.Slip.{form, deep, range, terms, lines}
 use Rattle.slips.proofs.Clean.{InRange, clean-start, first-form, first-lines}
 use Rattle.lines.specs.Model.{FoundAs, line_at, begins_line}
-use Rattle.lines.specs.Reading.{Holds, Whole}
+use Rattle.lines.specs.Reading.{Holds, Whole, TextTold}
 use Rattle.lines.proofs.Told.{Reading, LineEnd, LineTold, line-told}
 
 -- l lines are read, up to i
@@ -64,22 +64,19 @@ module _ {bs : List ℕ} {i l : ℕ} {m : List ℕ} (F : Far bs i l m) (h : i < 
       let c = F.count in
       subst (λ (x : ℕ). let u = line_at bs i m x in LineTold bs F.lines i u.memory u.outcome) c (line-told bs F.lines i m F.reading h (omega arith))
 
-  ended : l < max_entries → {e n : ℕ} {new : List ℕ} → FoundAs (At e n) new (line_at bs i m l) → LineEnd bs F.lines i new e n
+  pub ended : l < max_entries → {e n : ℕ} {new : List ℕ} → FoundAs (Ok (e, n)) new (line_at bs i m l) → LineEnd bs F.lines i new e n
   ended k {e} {n} {new} a =
       let u = line_at bs i m l in
       subst (λ (x : List ℕ). LineEnd bs F.lines i x e n) (sym a.memory-is) (subst (LineTold bs F.lines i u.memory) (sym a.outcome-is) (told k))
 
-  pub forward : l < max_entries → {r : Found} {e n : ℕ} {new : List ℕ} → r ≡ At e n → FoundAs r new (line_at bs i m l) → i < e
-  forward k {new = new} r a = (ended k (subst (λ (x : Found). FoundAs x new (line_at bs i m l)) r a)).begins
+  pub next-line : l < max_entries → {e n : ℕ} {new : List ℕ} → FoundAs (Ok (e, n)) new (line_at bs i m l) → Far bs e n new
+  next-line k a = one_more F (ended k a)
 
-  pub next-line : l < max_entries → {r : Found} {e n : ℕ} {new : List ℕ} → r ≡ At e n → FoundAs r new (line_at bs i m l) → Far bs e n new
-  next-line k {n = n} {new = new} r a = one_more F (ended k (subst (λ (x : Found). FoundAs x new (line_at bs i m l)) r a))
-
-  pub slipped : l < max_entries → {r : Found} (slip : Code-Slip) {new : List ℕ} → r ≡ Refused slip → FoundAs r new (line_at bs i m l) → FirstSlip bs (number_of slip) (place_of slip)
-  slipped k slip {new} r a =
+  pub slipped : l < max_entries → (r : Found) (slip : Code-Slip) {new : List ℕ} → FoundAs (Err slip) new (line_at bs i m l) → IsErrAnd r (λ e. e ≡ slip) → TextTold bs new r
+  slipped k r slip {new} a x =
       let u = line_at bs i m l in
-      let b = subst (λ (x : Found). FoundAs x new u) r a in
-      subst (LineTold bs F.lines i u.memory) (sym b.outcome-is) (told k)
+      let p = err_from_is_err_and r x in
+      rw (p.1, p.2) (subst (LineTold bs F.lines i u.memory) (sym a.outcome-is) (told k))
 
   -- behind as many lines as may be
   behind : at bs (suc i) ≡ step (wants (on_left F.lines)) (get_or bs i 0)

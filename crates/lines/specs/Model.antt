@@ -1,10 +1,14 @@
 -- How a line is read. Nothing here need be believed: proofs/ says what it means for the text.
 -- Assumes nothing.
-use Rattle.std.specs.Prelude.{ℕ, suc, ◌+◌, ◌*◌, ◌≡◌, Bool, cond, ◌||◌, List, eqb, get_or, set}
+use Rattle.std.specs.Prelude.{ℕ, suc, ◌+◌, ◌*◌, ◌≡◌, Bool, cond, ◌||◌, List, eqb, get_or, set, Result, Ok, Err}
 use Rattle.sheet.specs.Limits.{max_terms}
 use Rattle.text.specs.Machine.{is_digit}
-use Rattle.slips.specs.declared.Found.{Found}
-use Rattle.slips.specs.Outcome.{Outcome}
+use Rattle.sheet.specs.declared.Relation.{Relation}
+use Rattle.sheet.specs.Says.{relation_says}
+use Rattle.written.specs.Written.{kind_of}
+use Rattle.slips.specs.declared.Slip.{Slip}
+use Rattle.slips.specs.Says.{number_of, place_of}
+use Rattle.slips.specs.Outcome.{Outcome, Found}
 use Rattle.slips.specs.Outcome.Outcome.{read, refused}
 use Rattle.slips.specs.Outcome.{found_says}
 use Rattle.met.specs.Model.{Told}
@@ -16,6 +20,11 @@ pub record FoundAs (r : Found) (new : List ℕ) (t : Told) : Type 0 where
   pub outcome-is : found_says r ≡ t.outcome
   pub memory-is : new ≡ t.memory
   pub held : Held new
+
+-- a relation is told by its kind
+abbrev pub relation_read : Result (ℕ × Relation) Slip → Outcome
+relation_read (Ok found) = read found.0 (kind_of (relation_says found.1))
+relation_read (Err slip) = refused (number_of slip) (place_of slip)
 
 unfoldable pub relation_at : List ℕ → ℕ → Outcome
 relation_at bs i =

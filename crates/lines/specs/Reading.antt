@@ -1,13 +1,12 @@
 -- A text read so far: its lines, and what the memory holds of them. Nothing here need be believed.
 -- Assumes nothing.
-use Rattle.std.specs.Prelude.{ℕ, ◌+◌, ◌≤◌, ◌≡◌, List, [], map, length, take, drop}
+use Rattle.std.specs.Prelude.{ℕ, ◌+◌, ◌≤◌, ◌≡◌, List, [], map, length, take, drop, Ok, Err}
 use Rattle.sheet.specs.Limits.{max_terms, max_entries}
 use Rattle.text.specs.Text.{Line}
 use Rattle.text.specs.Print.{print}
 use Rattle.numbered.specs.Numbered.{enter_lines}
 use Rattle.numbered.specs.Within.{LinesIn}
-use Rattle.slips.specs.declared.Found.{Found}
-use Rattle.slips.specs.declared.Found.TheVariants.{At, Refused}
+use Rattle.slips.specs.Outcome.{Found}
 use Rattle.slips.specs.Says.{number_of, place_of}
 use Rattle.slips.specs.Slips.{Slip, FirstSlip}
 use Rattle.met.specs.Keys.{entry_code, Table}
@@ -29,5 +28,5 @@ pub record Whole (bs : List ℕ) (m : List ℕ) (l : ℕ) : Type 0 where
   pub holds : Holds lines m
 
 abbrev pub TextTold : List ℕ → List ℕ → Found → Type 0
-TextTold bs m (At e l) = Whole bs m l
-TextTold bs m (Refused slip) = FirstSlip bs (number_of slip) (place_of slip)
+TextTold bs m (Ok found) = Whole bs m found.1
+TextTold bs m (Err slip) = FirstSlip bs (number_of slip) (place_of slip)

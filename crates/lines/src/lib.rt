@@ -5,42 +5,42 @@
 
 ghost use Rattle.std.specs.Prelude.{◌≡◌, ◌<◌, []};
 ghost use Rattle.sheet.specs.Limits.{max_entries};
-ghost use Rattle.slips.specs.Outcome.{found_says};
-ghost use Rattle.numeral.specs.Model.{Bounded};
 ghost use Rattle.terms.specs.Model.{Held};
-ghost use Rattle.lines.specs.Model.{relation_at, begins_line, line_at, FoundAs};
+ghost use Rattle.lines.specs.Model.{relation_read, relation_at, begins_line, line_at, FoundAs};
 ghost use Rattle.lines.specs.Reading.{Holds, TextTold};
 
-use met::{MEMORY, Read};
+use met::MEMORY;
+use sheet::Relation;
 use slips::{Found, Slip};
 
 // Brackets go no deeper than this.
 pub const DEPTH: usize = 16;
 
-// The relation at i, by its kind.
-fn relation(s: &[u8], i: usize) -> Found
-    ensures model { found_says result ≡ relation_at s.now i }
-    ensures bounded { Bounded result }
+// The relation at i, behind the place where it ends.
+#[tactic(auto, unfolding(crate::specs::Model::relation_at))]
+fn relation(s: &[u8], i: usize) -> Result<(usize, Relation), Slip>
+    ensures { relation_read result ≡ relation_at s.now i }
 {
-    let c = numeral::byte_at(s, i);
-    if c == b'=' {
-        return Found::At(i + 1, 0);
-    }
-    if c == b'!' {
-        let j = i + 1;
-        if numeral::byte_at(s, j) == b'=' {
-            return Found::At(j + 1, 1);
+    match numeral::byte_at(s, i) {
+        b'=' => Ok((i + 1, Relation::Equal)),
+        b'!' => {
+            let j = i + 1;
+            if numeral::byte_at(s, j) == b'=' {
+                Ok((j + 1, Relation::Unequal))
+            } else {
+                Err(Slip::Form(j))
+            }
         }
-        return Found::Refused(Slip::Form(j));
-    }
-    if c == b'<' {
-        let j = i + 1;
-        if numeral::byte_at(s, j) == b'=' {
-            return Found::At(j + 1, 2);
+        b'<' => {
+            let j = i + 1;
+            if numeral::byte_at(s, j) == b'=' {
+                Ok((j + 1, Relation::AtMost))
+            } else {
+                Ok((j, Relation::Less))
+            }
         }
-        return Found::At(j, 3);
+        _ => Err(Slip::Form(i)),
     }
-    Found::Refused(Slip::Form(i))
 }
 
 // The line at i, which is entry l: its record goes to the memory. Answers the next line's place and number.
@@ -48,31 +48,23 @@ fn line(s: &[u8], i: usize, m: &mut [usize; MEMORY], l: usize) -> Found
     requires { Held m.old × (l < max_entries) }
     ensures { FoundAs result m.new (line_at s.now i m.old l) }
 {
-    match terms::term(s, i, m, DEPTH) {
-        Read::Term(e, a) => match relation(s, e) {
-            Found::At(g, kind) => match terms::term(s, g, m, DEPTH) {
-                Read::Term(h, b) => {
-                    if numeral::byte_at(s, h) != b'\n' {
-                        return Found::Refused(Slip::Form(h));
-                    }
-                    m[met::ENTRIES + l] = kind * terms::KIND
-                        + a.0 as usize * terms::A
-                        + b.0 as usize * terms::B;
-                    Found::At(h + 1, l + 1)
-                }
-                Read::Refused(slip) => Found::Refused(slip),
-            },
-            Found::Refused(slip) => Found::Refused(slip),
-        },
-        Read::Refused(slip) => Found::Refused(slip),
+    let (e, a) = terms::term(s, i, m, DEPTH)?;
+    let (g, kind) = relation(s, e)?;
+    let (h, b) = terms::term(s, g, m, DEPTH)?;
+    if numeral::byte_at(s, h) != b'\n' {
+        return Err(Slip::Form(h));
     }
+    m[met::ENTRIES + l] = kind as usize * terms::KIND
+        + a.0 as usize * terms::A
+        + b.0 as usize * terms::B;
+    Ok((h + 1, l + 1))
 }
 
 // Whether a line may begin with this byte.
 fn begins(c: u8) -> bool
     ensures { result ≡ begins_line c }
 {
-    ((b'0' <= c) & (c <= b'9')) | (c == b'-') | (c == b'f') | (c == b'x')
+    matches!(c, b'0'..=b'9' | b'-' | b'f' | b'x')
 }
 
 // The whole text, line by line. What is behind the last line that a sheet has room for is one too many, or begins none.
@@ -82,23 +74,18 @@ pub fn text(s: &[u8], m: &mut [usize; MEMORY]) -> Found
 {
     let mut i = 0;
     let mut l = 0;
+    // A while: how far a line goes isn't known before it is read.
     while i < s.len() {
         if l == sheet::MAX_ENTRIES {
             if begins(numeral::byte_at(s, i)) {
-                return Found::Refused(Slip::Full(i));
+                return Err(Slip::Full(i));
             }
-            return Found::Refused(Slip::Form(i));
+            return Err(Slip::Form(i));
         }
-        match line(s, i, m, l) {
-            Found::At(e, n) => {
-                i = e;
-                l = n;
-            }
-            Found::Refused(slip) => return Found::Refused(slip),
-        }
+        (i, l) = line(s, i, m, l)?;
     }
     if l == 0 {
-        return Found::Refused(Slip::Form(0));
+        return Err(Slip::Form(0));
     }
-    Found::At(i, l)
+    Ok((i, l))
 }

@@ -1,45 +1,54 @@
 -- A key's place in a list, found from the front as the search for it goes, and what is told then.
 -- Assumes nothing.
-use Prim.Native.Nat.{ℕ, suc, ◌+◌, ◌-◌, ◌≤◌, ◌<◌}
-use mathlib.Core.Path.{◌≡◌}
-use mathlib.Core.List.{List, ◌∷◌}
-use lib.ListN.{length, get_or, take, drop, set, length-take, drop_of_length-le}
-use lib.Seq.{drop-cons, get_or-take}
+use Prim.Native.Nat.{ℕ, zero, suc, ◌+◌, ◌-◌, ◌≤◌, ◌<◌}
+use mathlib.Core.Path.{◌≡◌, refl}
+use mathlib.Core.Bool.{Bool, true, false, cond}
+use lib.Dec.{eqb, ltb}
+use mathlib.Core.List.{List, [], ◌∷◌}
+use lib.ListN.{length, take, set}
+use Rattle.std.specs.Prelude.{◌==◌, Some, None, position, not}
+use Rattle.std.specs.List.{position_or_len}
+use Rattle.std.proofs.lemmas.List.{length-take-le}
+use Rattle.std.proofs.lemmas.List.Sums.{prefix_len-le-length}
 use native.Mathlib.Omega.{arith}
-use native.Mathlib.Numerals.{add-one}
-use borrow.Author.Tests.{eq-eqb, ne_eqb, lt-ltb, le-ltb, le-leb, lt-leb}
+use borrow.Author.Tests.{lt-ltb, le-ltb, le-leb, lt-leb, ltb-true, ltb-false}
 use Rattle.sheet.specs.Limits.{max_terms}
 use Rattle.slips.specs.Outcome.Outcome.{read, refused}
 use Rattle.met.specs.Model.{count_in, place_in, entered}
 
--- the key is at none of the first j of n cells
-pub record Passed (m : List ℕ) (n key j : ℕ) : Type 0 where
-  pub within : j ≤ n
-  pub ahead : place_in (take n m) key ≡ j + place_in (drop j (take n m)) key
+-- the search for a key passes first at its place
+place-first : (ks : List ℕ) (key : ℕ) → place_in ks key ≡ position_or_len (λ k. k == key) ks
+place-first [] key = refl
+place-first (k ∷ ks) key = go (eqb k key) (place-first ks key)
+  where
+    go : (t : Bool) → place_in ks key ≡ position_or_len (λ k. k == key) ks → cond t zero (suc (place_in ks key)) ≡ cond (not t) (1 + position_or_len (λ k. k == key) ks) 0
+    go true e = refl
+    go false e = omega arith
 
-pub none_yet : (m : List ℕ) (n key : ℕ) → Passed m n key 0
-none_yet m n key = record { within = omega arith; ahead = omega arith }
+-- and among the first n cells it finds the place, or that there is none
+module _ (m : List ℕ) (key : ℕ) {n : ℕ} (l : n ≤ length m) where
+  abbrev ks : List ℕ
+  ks = take n m
 
-module _ {m : List ℕ} {n key j : ℕ} (P : Passed m n key j) (l : n ≤ length m) where
-  cell : j < n → drop j (take n m) ≡ get_or m j 0 ∷ drop (suc j) (take n m)
-  cell h = rw (drop-cons (take n m) j 0 (simp length-take (omega arith)), get_or-take)
+  abbrev first : ℕ
+  first = position_or_len (λ k. k == key) ks
 
-  pub one_more : j < n → (get_or m j 0 ≡ key → ⊥) → Passed m n key (j + 1)
-  one_more h f =
-      let e : place_in (drop j (take n m)) key ≡ suc (place_in (drop (suc j) (take n m)) key) = rw (cell h, ne_eqb (get_or m j 0) key f) in record {
-        within = omega arith;
-        ahead = rw add-one (omega arith);
-      }
+  long : length ks ≡ n
+  long = length-take-le n m l
 
-  pub found : j < n → get_or m j 0 ≡ key → place_in (take n m) key ≡ j
-  found h f =
-      let e : place_in (drop j (take n m)) key ≡ 0 = rw (cell h, eq-eqb (get_or m j 0) key f) in
-      omega arith
+  pub found : {j : ℕ} → position (λ k. k == key) ks ≡ Some j → (place_in ks key ≡ j) × (j < n)
+  found {j} e = rw (place-first ks key) (go (ltb first (length ks)) refl e)
+    where
+      go : (t : Bool) → ltb first (length ks) ≡ t → cond t (Some first) None ≡ Some j → (first ≡ j) × (j < n)
+      go true q e = let s : first ≡ j = cc in (s, omega (arith, ltb-true first (length ks) q, long))
+      go false q e = cc
 
-  pub at-end : n ≤ j → place_in (take n m) key ≡ n
-  at-end h =
-      let e : place_in (drop j (take n m)) key ≡ 0 = rw (drop_of_length-le (take n m) {i = j} (simp length-take (omega arith))) in
-      omega arith
+  pub missed : position (λ k. k == key) ks ≡ None → place_in ks key ≡ n
+  missed e = rw (place-first ks key) (go (ltb first (length ks)) refl e)
+    where
+      go : (t : Bool) → ltb first (length ks) ≡ t → cond t (Some first) None ≡ None → first ≡ n
+      go true q e = cc
+      go false q e = omega (arith, ltb-false first (length ks) q, prefix_len-le-length (λ k. not (k == key)) ks, long)
 
 module _ (m : List ℕ) (key e : ℕ) where
   pub told-met : {i : ℕ} → place_in (take (count_in m) m) key ≡ i → i < count_in m → entered m key e ≡ record { memory = m; outcome = read e i }

@@ -1,16 +1,20 @@
 -- How a term is looked up among those met. Nothing here need be believed: proofs/ says what it means for the numbering.
 -- Assumes nothing.
-use Rattle.std.specs.Prelude.{ℕ, zero, suc, ◌+◌, ◌-◌, cond, List, [], ◌∷◌, ltb, leb, eqb, get_or, take, set}
+use Rattle.std.specs.Prelude.{ℕ, zero, suc, ◌+◌, ◌-◌, cond, List, [], ◌∷◌, ltb, leb, eqb, get_or, take, set, Result, Ok, Err}
 use Rattle.sheet.specs.Limits.{max_terms, max_entries}
+use Rattle.sheet.specs.declared.TermNumber.{TermNumber}
+use Rattle.slips.specs.declared.Slip.{Slip}
 use Rattle.slips.specs.Outcome.{Outcome}
 use Rattle.slips.specs.Outcome.Outcome.{read, refused}
 use Rattle.slips.specs.Says.{number_of, place_of}
-use Rattle.met.specs.declared.Read.{Read}
-use Rattle.met.specs.declared.Read.TheVariants.{Term, Refused}
+
+-- the place behind a term, and its number; or what is wrong
+abbrev pub Read : Type 0
+Read = Result (ℕ × TermNumber) Slip
 
 abbrev pub read_says : Read → Outcome
-read_says (Term e i) = read e i.0
-read_says (Refused slip) = refused (number_of slip) (place_of slip)
+read_says (Ok term) = read term.0 term.1.0
+read_says (Err slip) = refused (number_of slip) (place_of slip)
 
 abbrev pub memory_cells : ℕ
 memory_cells = max_terms + 1 + max_entries

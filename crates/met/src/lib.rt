@@ -2,7 +2,7 @@
 // It rests on nothing but the memory, and promises a key's number, and that a new key goes behind those before it.
 #![tactic(auto)]
 
-ghost use Rattle.std.specs.Prelude.{◌≡◌, ◌≤◌, length};
+ghost use Rattle.std.specs.Prelude.{◌≡◌, ◌≤◌, ◌==◌, length, position};
 ghost use Rattle.sheet.specs.Limits.{max_terms};
 ghost use Rattle.met.specs.Model.{read_says, memory_cells, count_in, entered};
 
@@ -17,11 +17,7 @@ pub const ENTRIES: usize = COUNT + 1;
 pub const MEMORY: usize = ENTRIES + sheet::MAX_ENTRIES;
 
 // The place behind a term, and its number; or what is wrong.
-#[derive(Clone, Copy)]
-pub enum Read {
-    Term(usize, TermNumber),
-    Refused(Slip),
-}
+pub type Read = Result<(usize, TermNumber), Slip>;
 
 // The term of this key, which ends before e: it has a number or gets the next.
 pub fn enter(m: &mut [usize; MEMORY], key: usize, e: usize) -> Read
@@ -30,17 +26,20 @@ pub fn enter(m: &mut [usize; MEMORY], key: usize, e: usize) -> Read
     ensures memory { m.new ≡ (entered m.old key e).memory }
 {
     let count = m[COUNT];
-    let mut j = 0;
-    while j < count {
-        if m[j] == key {
-            return Read::Term(e, TermNumber(j as u8));
-        }
-        j += 1;
+    if let Some(j) = find(&m[..count], key) {
+        return Ok((e, TermNumber(j as u8)));
     }
     if sheet::MAX_TERMS <= count {
-        return Read::Refused(Slip::Full(e - 1));
+        return Err(Slip::Full(e - 1));
     }
     m[count] = key;
     m[COUNT] = count + 1;
-    Read::Term(e, TermNumber(count as u8))
+    Ok((e, TermNumber(count as u8)))
+}
+
+// The place of a key among those met.
+fn find(keys: &[usize], key: usize) -> Option<usize>
+    ensures { result ≡ position (λ k. k == key) keys.now }
+{
+    keys.iter().position(|k| *k == key)
 }

@@ -1,19 +1,22 @@
 -- How a number is read. Nothing here need be believed: proofs/ says what it means for the text.
 -- Assumes nothing.
-use Rattle.std.specs.Prelude.{ℕ, suc, ◌+◌, ◌*◌, ◌-◌, ◌≤◌, cond, List, [], ◌∷◌, ltb, eqb, get_or, drop}
-use Rattle.slips.specs.Outcome.{Outcome}
+use Rattle.std.specs.Prelude.{ℕ, suc, ◌+◌, ◌*◌, ◌-◌, ◌≤◌, ◌<◌, ◌≡◌, cond, List, [], ◌∷◌, ltb, eqb, get_or, drop, Option, Some, None, Ok, Err}
+use Rattle.slips.specs.Outcome.{Outcome, Found}
 use Rattle.slips.specs.Outcome.Outcome.{read, refused}
-use Rattle.slips.specs.declared.Found.{Found}
-use Rattle.slips.specs.declared.Found.TheVariants.{At, Refused}
 
 -- it ends behind something, and fits two bytes
 abbrev pub Bounded : Found → Type 0
-Bounded (At e n) = (1 ≤ e) × (n ≤ 65535)
-Bounded (Refused slip) = Unit {0}
+Bounded (Ok found) = (1 ≤ found.0) × (found.1 ≤ 65535)
+Bounded (Err slip) = Unit {0}
 
 -- the digit that a byte is, or 10 or more
 abbrev pub digit_of : ℕ → ℕ
 digit_of b = cond (ltb b 48) 10 (b - 48)
+
+-- the digit d, or none
+abbrev pub DigitAs : ℕ → Option ℕ → Type 0
+DigitAs d (Some c) = (c < 10) × (c ≡ d)
+DigitAs d None = 10 ≤ d
 
 -- on from a number n that ends before e
 unfoldable pub more : ℕ → List ℕ → (e n : ℕ) → Outcome

@@ -5,7 +5,7 @@
 
 ghost use Rattle.std.specs.Prelude.{◌≡◌, ◌≤◌, get_or};
 ghost use Rattle.slips.specs.Outcome.{found_says};
-ghost use Rattle.numeral.specs.Model.{Bounded, digit_of, number};
+ghost use Rattle.numeral.specs.Model.{Bounded, digit_of, DigitAs, number};
 
 use slips::{Found, Slip};
 
@@ -16,12 +16,16 @@ pub fn byte_at(s: &[u8], i: usize) -> u8
     if i < s.len() { s[i] } else { 0 }
 }
 
-// The digit at i, or 10 or more where none stands.
-fn digit_at(s: &[u8], i: usize) -> usize
-    ensures { result ≡ digit_of (get_or s.now i 0) }
+// The digit at i, where one stands.
+fn digit_at(s: &[u8], i: usize) -> Option<usize>
+    ensures { DigitAs (digit_of (get_or s.now i 0)) result }
 {
     let c = byte_at(s, i);
-    if c < b'0' { 10 } else { (c - b'0') as usize }
+    if c.is_ascii_digit() {
+        Some((c - b'0') as usize)
+    } else {
+        None
+    }
 }
 
 // The number from i on, which is at least `least`, 0 or 1.
@@ -30,26 +34,24 @@ pub fn number_at(s: &[u8], i: usize, least: usize, limit: usize) -> Found
     ensures model { found_says result ≡ number s.now i least limit }
     ensures bounded { Bounded result }
 {
-    let first = digit_at(s, i);
-    if 9 < first {
-        return Found::Refused(Slip::Form(i));
-    }
+    let Some(first) = digit_at(s, i) else {
+        return Err(Slip::Form(i));
+    };
     if first < least {
-        return Found::Refused(Slip::Form(i));
+        return Err(Slip::Form(i));
     }
     let mut n = first;
     let mut e = i + 1;
-    let mut d = digit_at(s, e);
-    while d < 10 {
+    // A while: where the number ends isn't known before it is read.
+    while let Some(d) = digit_at(s, e) {
         if n == 0 {
-            return Found::Refused(Slip::Form(e));
+            return Err(Slip::Form(e));
         }
         n = 10 * n + d;
         if limit < n {
-            return Found::Refused(Slip::Range(e));
+            return Err(Slip::Range(e));
         }
         e += 1;
-        d = digit_at(s, e);
     }
-    Found::At(e, n)
+    Ok((e, n))
 }

@@ -9,7 +9,7 @@ use Rattle.text.specs.Typed.{Context}
 use Rattle.text.specs.Typed.Context.{on_left, argument}
 use Rattle.text.specs.Typed.Lead.{of_variable, of_symbol}
 use Rattle.text.specs.Typed.Use.{led}
-use Rattle.text.specs.Typed.State.{wants, digits}
+use Rattle.text.specs.Typed.State.{wants}
 use Rattle.slips.specs.Slips.{Slip}
 use Rattle.slips.specs.Slips.Slip.{deep, range}
 

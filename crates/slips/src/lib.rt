@@ -7,7 +7,7 @@
 ghost use Rattle.std.specs.Prelude.{◌≡◌};
 ghost use Rattle.slips.specs.Says.{number_of, place_of};
 
-#[derive(Clone, Copy)]
+#[derive(Clone, Copy, Debug, PartialEq, Eq)]
 pub enum Slip {
     Form(usize),
     Deep(usize),
@@ -17,11 +17,7 @@ pub enum Slip {
 }
 
 // What a reader finds: the place behind it, and its number; or what is wrong.
-#[derive(Clone, Copy)]
-pub enum Found {
-    At(usize, usize),
-    Refused(Slip),
-}
+pub type Found = Result<(usize, usize), Slip>;
 
 impl Slip {
     pub fn number(self) -> u8
@@ -40,10 +36,7 @@ impl Slip {
         ensures { result ≡ place_of self }
     {
         match self {
-            Slip::Form(p) => p,
-            Slip::Deep(p) => p,
-            Slip::Range(p) => p,
-            Slip::Full(p) => p,
+            Slip::Form(p) | Slip::Deep(p) | Slip::Range(p) | Slip::Full(p) => p,
             Slip::Room => 0,
         }
     }

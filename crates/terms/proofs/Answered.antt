@@ -1,26 +1,25 @@
 -- The readers' steps are the model's.
 -- Assumes nothing.
-use Prim.Native.Nat.{ℕ, zero, suc, ◌+◌, ◌*◌, ◌-◌, ◌%◌, ◌≤◌, ◌<◌}
+use Prim.Native.Nat.{ℕ, zero, suc, ◌+◌, ◌*◌, ◌-◌, ◌%◌, ◌≤◌}
 use mathlib.Core.Path.{◌≡◌, refl, sym, ap, ◌∙◌, subst}
 use mathlib.Core.Bool.{Bool, true, false, cond}
 use mathlib.Core.List.{List}
 use lib.Dec.{ltb, leb}
-use lib.ListN.{length, get_or, take, set, length-set}
+use lib.ListN.{get_or, take, set, length-set}
 use lib.Seq.{get_or-set_same}
 use native.Mathlib.Omega.{arith}
 use borrow.Author.Tests.{eq-eqb, ne_eqb, leb-false}
+use Rattle.std.specs.Prelude.{Err, IsErrAnd}
+use Rattle.std.proofs.lemmas.Result.{err_from_is_err_and}
 use Rattle.sheet.specs.Limits.{max_terms}
 use Rattle.slips.specs.declared.Slip.{Slip}
 use Rattle.slips.specs.Says.{number_of, place_of}
 use Rattle.slips.specs.Outcome.{Outcome}
 use Rattle.slips.specs.Outcome.Outcome.{read, refused}
 use Rattle.numeral.specs.Model.{number}
-use Rattle.met.specs.declared.Read.{Read}
-use Rattle.met.specs.declared.Read.TheVariants.{Refused}
-use Rattle.met.specs.Model.{read_says, count_in, place_in, Told, entered}
+use Rattle.met.specs.Model.{Read, read_says, count_in, place_in, Told, entered}
 use Rattle.met.proofs.Entered.{entered-length}
 use Rattle.met.specs.Keys.{kind_one, symbol_one, a_one, b_one, names}
-use Rattle.terms.proofs.Told.{there}
 use Rattle.terms.specs.Model.{Held, Answers, sent_back, value_at, shifted_at, shifted, closed_at, second_at, first_at, term_at, arguments, term}
 
 pub entered-held : (m : List ℕ) (key e : ℕ) → Held m → Held (entered m key e).memory
@@ -44,15 +43,15 @@ entered-held m key e h = (entered-length m key e ∙ h.0, go (ltb (place_in (tak
 pub entered-answers : {r : Read} {new : List ℕ} (m : List ℕ) (key e : ℕ) → Held m → read_says r ≡ (entered m key e).outcome → new ≡ (entered m key e).memory → Answers r new (entered m key e)
 entered-answers m key e h o n = record { outcome-is = o; memory-is = n; held = subst Held (sym n) (entered-held m key e h) }
 
-pub refused-answers : {m : List ℕ} (slip : Slip) → Held m → Answers (Refused slip) m (sent_back m (number_of slip) (place_of slip))
+pub refused-answers : {m : List ℕ} (slip : Slip) → Held m → Answers (Err slip) m (sent_back m (number_of slip) (place_of slip))
 refused-answers slip h = record { outcome-is = refl; memory-is = refl; held = h }
+
+-- what a `?` sends back
+pub exit-answers : (r : Read) (slip : Slip) {m : List ℕ} → IsErrAnd r (λ e. e ≡ slip) → Held m → Answers r m (sent_back m (number_of slip) (place_of slip))
+exit-answers r slip e h = let p = err_from_is_err_and r e in rw (p.1, p.2) (refused-answers _ h)
 
 pub answers-as : {r : Read} {new : List ℕ} {t u : Told} → t ≡ u → Answers r new t → Answers r new u
 answers-as {r} {new} e a = subst (Answers r new) e a
-
--- a reader that goes on from where another ended
-pub on-from : {r p : Read} {new m : List ℕ} {t : Told} (go : List ℕ → Outcome → Told) → Answers p m t → Answers r new (go m (read_says p)) → Answers r new (go t.memory t.outcome)
-on-from {p = p} {t = t} go a b = answers-as (ap (λ (x : List ℕ). go x (read_says p)) a.memory-is ∙ ap (go t.memory) a.outcome-is) b
 
 pub value-number : (bs m : List ℕ) (i least limit base step : ℕ) {e n : ℕ} → number bs i least limit ≡ read e n → entered m (base + n * step % 65536) e ≡ value_at bs i m least limit base step
 unfolding value_at
@@ -71,22 +70,6 @@ module _ (bs m : List ℕ) (e : ℕ) {b : ℕ} (q : b ≡ get_or bs e 0) where
   unfolding closed_at
   closed-no key h = rw (← q, ne_eqb b 41 h) refl
 
-  pub shift-plus : {o : Outcome} (a f : ℕ) → o ≡ read e a → b ≡ 43 → f ≡ suc e → value_at bs f m 0 32767 (2 * kind_one + a * a_one) 1 ≡ shifted_at bs m o
-  shift-plus a f o h g = rw (o, ← q, eq-eqb b 43 h, g) refl
-
-  pub shift-minus : {o : Outcome} (a f : ℕ) → o ≡ read e a → (b ≡ 43 → ⊥) → b ≡ 45 → f ≡ suc e → value_at bs f m 0 32768 (2 * kind_one + a * a_one) 65535 ≡ shifted_at bs m o
-  shift-minus a f o n h g = rw (o, ← q, ne_eqb b 43 n, eq-eqb b 45 h, g) refl
-
-  pub shift_none : {o : Outcome} (a : ℕ) → o ≡ read e a → (b ≡ 43 → ⊥) → (b ≡ 45 → ⊥) → record { memory = m; outcome = read e a } ≡ shifted_at bs m o
-  shift_none a o n h = rw (o, ← q, ne_eqb b 43 n, ne_eqb b 45 h) refl
-
-pub shift-refused : (bs m : List ℕ) {o : Outcome} {N p : ℕ} → o ≡ refused N p → sent_back m N p ≡ shifted_at bs m o
-shift-refused bs m o = rw o refl
-
--- a byte that isn't 0 stands within the text
-pub within : (bs : List ℕ) (i : ℕ) {b : ℕ} (c : ℕ) → b ≡ get_or bs i 0 → b ≡ suc c → i < length bs
-within bs i c q h = there bs i c (sym q ∙ h)
-
 shifted-from : {p : Read} {m : List ℕ} {t : Told} (bs : List ℕ) → Answers p m t → shifted_at bs m (read_says p) ≡ shifted bs t
 unfolding shifted
 shifted-from {p} {t = t} bs a = ap (λ (x : List ℕ). shifted_at bs x (read_says p)) a.memory-is ∙ ap (shifted_at bs t.memory) a.outcome-is
@@ -96,18 +79,9 @@ module _ (bs m : List ℕ) (i d : ℕ) {b : ℕ} (q : b ≡ get_or bs i 0) where
       shifted_at bs new (read_says p) ≡ term d bs i m
   term-applied h j n a = shifted-from bs a ∙ rw (← q, eq-eqb b 102 h, ← j, n) refl
 
-  pub term-unsymbol : {j N P : ℕ} → b ≡ 102 → j ≡ suc i → number bs j 0 255 ≡ refused N P → sent_back m N P ≡ term d bs i m
-  term-unsymbol h j n = rw (← q, eq-eqb b 102 h, ← j, n) refl
-
   pub term-variable : {p : Read} {new : List ℕ} {j : ℕ} → (b ≡ 102 → ⊥) → b ≡ 120 → j ≡ suc i → Answers p new (value_at bs j m 0 99 names 1) →
       shifted_at bs new (read_says p) ≡ term d bs i m
   term-variable f h j a = shifted-from bs a ∙ rw (← q, ne_eqb b 102 f, eq-eqb b 120 h, ← j) refl
-
-  pub term-negative : {j : ℕ} → (b ≡ 102 → ⊥) → (b ≡ 120 → ⊥) → b ≡ 45 → j ≡ suc i → value_at bs j m 1 32768 kind_one 65535 ≡ term d bs i m
-  term-negative f x h j = rw (← q, ne_eqb b 102 f, ne_eqb b 120 x, eq-eqb b 45 h, ← j) refl
-
-  pub term-number : (b ≡ 102 → ⊥) → (b ≡ 120 → ⊥) → (b ≡ 45 → ⊥) → value_at bs i m 0 32767 kind_one 1 ≡ term d bs i m
-  term-number f x n = rw (← q, ne_eqb b 102 f, ne_eqb b 120 x, ne_eqb b 45 n) refl
 
 module _ (bs m : List ℕ) (i f : ℕ) {b : ℕ} (q : b ≡ get_or bs i 0) where
   pub no-bracket : (d : ℕ) → (b ≡ 40 → ⊥) → sent_back m 20 i ≡ arguments d bs i f m

@@ -23,9 +23,9 @@ use Rattle.text.specs.Typed.Context.{on_left, on_right, argument, second}
 use Rattle.text.specs.Typed.Lead.{of_negative, of_variable, of_symbol, of_shift}
 use Rattle.text.specs.Typed.Use.{of_number, led}
 use Rattle.text.specs.Typed.State.{stopped, wants, due, digits, closed}
-use Rattle.text.specs.Machine.{after, after_number, pick, digit, is_digit, step}
+use Rattle.text.specs.Machine.{after, after_number, pick, is_digit, step}
 use Rattle.text.specs.Reach.{at, Like, ended_plain, ended, Whole}
-use Rattle.text.proofs.Through.{sign-step, end_step, like-wants, opens, closes, within}
+use Rattle.text.proofs.Through.{sign-step, end_step, like-wants, opens, closes}
 use Rattle.text.proofs.Place.{at_next, IsWhole, is_whole, fault-at}
 use Rattle.numbered.specs.Numbered.{Key, Entered, enter_key, enter_plain, enter_term, amount}
 use Rattle.numbered.specs.Numbered.Key.{of_variable as variable_key, of_number as number_key, of_shift as shift_key, of_apply as apply_key, of_apply2 as apply_key2}

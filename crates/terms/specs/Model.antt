@@ -5,8 +5,7 @@ use Rattle.sheet.specs.Limits.{max_terms}
 use Rattle.slips.specs.Outcome.{Outcome}
 use Rattle.slips.specs.Outcome.Outcome.{read, refused}
 use Rattle.numeral.specs.Model.{number}
-use Rattle.met.specs.declared.Read.{Read}
-use Rattle.met.specs.Model.{read_says, memory_cells, count_in, Told, entered}
+use Rattle.met.specs.Model.{Read, read_says, memory_cells, count_in, Told, entered}
 use Rattle.met.specs.Keys.{kind_one, symbol_one, a_one, b_one, names}
 
 -- a memory of terms met

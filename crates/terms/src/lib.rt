@@ -4,11 +4,12 @@
 #![tactic(auto)]
 
 ghost use Rattle.std.specs.Prelude.{◌≤◌};
-ghost use Rattle.met.specs.Model.{read_says};
+ghost use Rattle.slips.specs.Outcome.Outcome.{read};
 ghost use Rattle.terms.specs.Model.{Held, Answers, value_at, shifted_at, closed_at, arguments, term};
 
 use met::{MEMORY, Read};
-use slips::{Found, Slip};
+use sheet::TermNumber;
+use slips::Slip;
 
 // One of each field of a key: the kind, the symbol, a and b stand before c, each in a byte.
 pub const KIND: usize = 1099511627776;
@@ -38,30 +39,21 @@ fn value(
     requires { Held m.old × (limit ≤ 65535) × (base ≤ 1152921504606846976) × (step ≤ 65535) }
     ensures { Answers result m.new (value_at s.now i m.old least limit base step) }
 {
-    match numeral::number_at(s, i, least, limit) {
-        Found::At(e, n) => met::enter(m, base + n * step % B, e),
-        Found::Refused(slip) => Read::Refused(slip),
-    }
+    let (e, n) = numeral::number_at(s, i, least, limit)?;
+    met::enter(m, base + n * step % B, e)
 }
 
-// Behind a plain term, its shift where it has one.
-fn shift(plain: Read, s: &[u8], m: &mut [usize; MEMORY]) -> Read
+// Behind a plain term that ends before e, its shift where it has one.
+fn shift(plain: (usize, TermNumber), s: &[u8], m: &mut [usize; MEMORY]) -> Read
     requires { Held m.old }
-    ensures { Answers result m.new (shifted_at s.now m.old (read_says plain)) }
+    ensures { Answers result m.new (shifted_at s.now m.old (read plain.0 plain.1.0)) }
 {
-    match plain {
-        Read::Term(e, a) => {
-            let base = 2 * KIND + a.0 as usize * A;
-            let sign = numeral::byte_at(s, e);
-            if sign == b'+' {
-                return value(s, e + 1, m, 0, 32767, base, 1);
-            }
-            if sign == b'-' {
-                return value(s, e + 1, m, 0, 32768, base, BACK);
-            }
-            Read::Term(e, a)
-        }
-        Read::Refused(slip) => Read::Refused(slip),
+    let (e, a) = plain;
+    let base = 2 * KIND + a.0 as usize * A;
+    match numeral::byte_at(s, e) {
+        b'+' => value(s, e + 1, m, 0, 32767, base, 1),
+        b'-' => value(s, e + 1, m, 0, 32768, base, BACK),
+        _ => Ok(plain),
     }
 }
 
@@ -73,7 +65,7 @@ fn closed(s: &[u8], e: usize, m: &mut [usize; MEMORY], key: usize) -> Read
     if numeral::byte_at(s, e) == b')' {
         met::enter(m, key, e + 1)
     } else {
-        Read::Refused(Slip::Form(e))
+        Err(Slip::Form(e))
     }
 }
 
@@ -84,24 +76,18 @@ pub fn arguments(s: &[u8], i: usize, f: usize, m: &mut [usize; MEMORY], depth: u
     ensures { Answers result m.new (arguments depth s.now i f m.old) }
 {
     if numeral::byte_at(s, i) != b'(' {
-        return Read::Refused(Slip::Form(i));
+        return Err(Slip::Form(i));
     }
     if depth == 0 {
-        return Read::Refused(Slip::Deep(i));
+        return Err(Slip::Deep(i));
     }
-    match term(s, i + 1, m, depth - 1) {
-        Read::Term(e, a) => {
-            let one = f * SYMBOL + a.0 as usize * A;
-            if numeral::byte_at(s, e) != b',' {
-                return closed(s, e, m, 3 * KIND + one);
-            }
-            match term(s, e + 1, m, depth - 1) {
-                Read::Term(g, b) => closed(s, g, m, 4 * KIND + one + b.0 as usize * B),
-                Read::Refused(slip) => Read::Refused(slip),
-            }
-        }
-        Read::Refused(slip) => Read::Refused(slip),
+    let (e, a) = term(s, i + 1, m, depth - 1)?;
+    let one = f * SYMBOL + a.0 as usize * A;
+    if numeral::byte_at(s, e) != b',' {
+        return closed(s, e, m, 3 * KIND + one);
     }
+    let (g, b) = term(s, e + 1, m, depth - 1)?;
+    closed(s, g, m, 4 * KIND + one + b.0 as usize * B)
 }
 
 // The term at i, which goes no deeper than so many brackets.
@@ -110,18 +96,17 @@ pub fn term(s: &[u8], i: usize, m: &mut [usize; MEMORY], depth: usize) -> Read
     requires { Held m.old }
     ensures { Answers result m.new (term depth s.now i m.old) }
 {
-    let first = numeral::byte_at(s, i);
-    if first == b'f' {
-        return match numeral::number_at(s, i + 1, 0, 255) {
-            Found::At(e, f) => shift(arguments(s, e, f, m, depth), s, m),
-            Found::Refused(slip) => Read::Refused(slip),
-        };
+    match numeral::byte_at(s, i) {
+        b'f' => {
+            let (e, f) = numeral::number_at(s, i + 1, 0, 255)?;
+            let plain = arguments(s, e, f, m, depth)?;
+            shift(plain, s, m)
+        }
+        b'x' => {
+            let plain = value(s, i + 1, m, 0, 99, NAMES, 1)?;
+            shift(plain, s, m)
+        }
+        b'-' => value(s, i + 1, m, 1, 32768, KIND, BACK),
+        _ => value(s, i, m, 0, 32767, KIND, 1),
     }
-    if first == b'x' {
-        return shift(value(s, i + 1, m, 0, 99, NAMES, 1), s, m);
-    }
-    if first == b'-' {
-        return value(s, i + 1, m, 1, 32768, KIND, BACK);
-    }
-    value(s, i, m, 0, 32767, KIND, 1)
 }

@@ -1,11 +1,13 @@
 -- The promise, from what the reader tells and what the writer wrote.
 -- Assumes nothing.
 use Prim.Native.Nat.{ℕ, ◌≤◌, ◌<◌}
-use mathlib.Core.Path.{◌≡◌, refl, sym, ap, ◌∙◌, subst}
+use mathlib.Core.Path.{◌≡◌, refl, sym, ap, ◌∙◌}
 use mathlib.Core.List.{List, [], ◌∷◌}
 use lib.IntN.{pos}
 use lib.ListN.{length}
 use native.Mathlib.Omega.{arith}
+use Rattle.std.specs.Prelude.{IsErrAnd}
+use Rattle.std.proofs.lemmas.Result.{err_from_is_err_and}
 use Rattle.sheet.specs.Sheet.{equal, Entry, WellFormed}
 use Rattle.text.specs.Text.{Line}
 use Rattle.written.specs.Fields.{EachIn, FieldsIn}
@@ -14,22 +16,13 @@ use Rattle.written.proofs.Row.{each_at, each_of}
 use Rattle.numbered.specs.Numbered.{Key, enter_line, enter_lines, sheet_of}
 use Rattle.numbered.proofs.Formed.{lines-formed, lines-fields, entries-length}
 use Rattle.slips.specs.declared.Slip.{Slip}
-use Rattle.slips.specs.declared.Found.{Found}
-use Rattle.slips.specs.declared.Found.TheVariants.{At, Refused}
-use Rattle.slips.specs.Says.{number_of, place_of}
+use Rattle.slips.specs.Says.{number_of as slip_number, place_of as slip_place}
 use Rattle.slips.specs.Slips.{FirstSlip}
 use Rattle.slips.proofs.Clean.{slip-unique}
-use Rattle.lines.specs.Reading.{Whole, TextTold}
+use Rattle.lines.specs.Reading.{Whole}
 use Rattle.drafting.specs.Draft.{EntryFits, entry_cells, draft, Drafted}
 use Rattle.drafting.proofs.Draft.{draft-bytes, draft-length}
-use Rattle.transcript.specs.Transcribed.{sheet_room, Transcribed}
-
--- what the reader of lines tells, by its answer
-pub told-whole : (bs m : List ℕ) {r : Found} {e l : ℕ} → r ≡ At e l → TextTold bs m r → Whole bs m l
-told-whole bs m q t = subst (TextTold bs m) q t
-
-pub told-slip : (bs m : List ℕ) {r : Found} {slip : Slip} → r ≡ Refused slip → TextTold bs m r → FirstSlip bs (number_of slip) (place_of slip)
-told-slip bs m q t = subst (TextTold bs m) q t
+use Rattle.transcript.specs.Transcribed.{Typed, number_of, place_of, sheet_room, Transcribed}
 
 pub too_short : {text old : List ℕ} → length old < sheet_room → Transcribed text old old 24 0
 too_short h = record {
@@ -44,6 +37,11 @@ slipped h F = record {
   sent_back = λ k M Q G. let e = slip-unique F G in record { number_is = e.0; place_is = e.1; room-is = refl };
   transcribed = λ k none. absurd (none _ _ F.slip);
 }
+
+-- what a `?` sends back
+pub slipped-exit : {text old : List ℕ} (r : Typed) (slip : Slip) → IsErrAnd r (λ e. e ≡ slip) → sheet_room ≤ length old → FirstSlip text (slip_number slip) (slip_place slip) →
+    Transcribed text old old (number_of r) (place_of r)
+slipped-exit r slip e h F = let p = err_from_is_err_and r e in rw (p.1, p.2) (slipped h F)
 
 -- entries of a text have c = 0
 entries-even : (ls : List Line) (xs : List Key) → EachIn (λ e. e.c ≡ pos 0) (enter_lines ls xs).entries

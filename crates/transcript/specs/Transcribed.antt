@@ -1,25 +1,28 @@
 -- What the call promises, from the bytes of a typed text to the bytes in the room.
 -- Assumes nothing.
-use Rattle.std.specs.Prelude.{ℕ, ◌≤◌, ◌<◌, ◌≡◌, List, length}
+use Rattle.std.specs.Prelude.{ℕ, ◌≤◌, ◌<◌, ◌≡◌, List, length, Result, Ok, Err}
 use Rattle.sheet.specs.Limits.{max_terms, max_entries, sheet_length}
 use Rattle.text.specs.Text.{Line}
 use Rattle.text.specs.Print.{print}
 use Rattle.written.specs.Written.{sheet_bytes}
 use Rattle.numbered.specs.Numbered.{sheet_of}
+use Rattle.slips.specs.declared.Slip.{Slip as Code-Slip}
 use Rattle.slips.specs.Slips.{Slip, FirstSlip}
 use Rattle.slips.specs.Says.{number_of as slip_number, place_of as slip_place}
 use Rattle.promise.specs.Answered.{over, SentBack}
-use Rattle.transcript.specs.declared.Typed.{Typed}
-use Rattle.transcript.specs.declared.Typed.TheVariants.{Sheet, Refused}
+
+-- the length of the sheet in the room, or what is wrong
+abbrev pub Typed : Type 0
+Typed = Result ℕ Code-Slip
 
 -- document 02's number and place of an answer
 abbrev pub number_of : Typed → ℕ
-number_of (Sheet size) = 0
-number_of (Refused slip) = slip_number slip
+number_of (Ok size) = 0
+number_of (Err slip) = slip_number slip
 
 abbrev pub place_of : Typed → ℕ
-place_of (Sheet size) = size
-place_of (Refused slip) = slip_place slip
+place_of (Ok size) = size
+place_of (Err slip) = slip_place slip
 
 -- the room that every sheet fits in
 abbrev pub sheet_room : ℕ

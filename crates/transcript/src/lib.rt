@@ -8,35 +8,31 @@ ghost use Rattle.std.specs.Prelude.{◌≡◌};
 ghost use Rattle.transcript.specs.Transcribed.{number_of, place_of, Transcribed};
 
 use met::MEMORY;
-use slips::{Found, Slip};
+use slips::Slip;
 
 // The room that every sheet fits in.
 pub const ROOM: usize = sheet::LONGEST;
 
-// What the call says of a text. Sheet has the length of the sheet in the room.
-#[derive(Clone, Copy)]
-pub enum Typed {
-    Sheet(usize),
-    Refused(Slip),
+// What the call says of a text: the length of its sheet in the room, or what is wrong.
+pub type Typed = Result<usize, Slip>;
+
+// Document 02's number of an answer, which is 0 for a sheet.
+pub fn number_of(typed: Typed) -> u8
+    ensures { result ≡ number_of typed }
+{
+    match typed {
+        Ok(_) => 0,
+        Err(slip) => slip.number(),
+    }
 }
 
-impl Typed {
-    pub fn number(self) -> u8
-        ensures { result ≡ number_of self }
-    {
-        match self {
-            Typed::Sheet(_) => 0,
-            Typed::Refused(slip) => slip.number(),
-        }
-    }
-
-    pub fn place(self) -> usize
-        ensures { result ≡ place_of self }
-    {
-        match self {
-            Typed::Sheet(size) => size,
-            Typed::Refused(slip) => slip.place(),
-        }
+// And its place, which is the length for a sheet.
+pub fn place_of(typed: Typed) -> usize
+    ensures { result ≡ place_of typed }
+{
+    match typed {
+        Ok(size) => size,
+        Err(slip) => slip.place(),
     }
 }
 
@@ -45,11 +41,9 @@ pub fn transcribe(text: &[u8], room: &mut [u8]) -> Typed
     ensures { Transcribed text.now room.old room.new (number_of result) (place_of result) }
 {
     if room.len() < ROOM {
-        return Typed::Refused(Slip::Room);
+        return Err(Slip::Room);
     }
     let mut m = [0usize; MEMORY];
-    match lines::text(text, &mut m) {
-        Found::At(_, l) => Typed::Sheet(drafting::sheet(&m, l, room)),
-        Found::Refused(slip) => Typed::Refused(slip),
-    }
+    let (_, l) = lines::text(text, &mut m)?;
+    Ok(drafting::sheet(&m, l, room))
 }

@@ -4,7 +4,6 @@
 
 use promise::Answer;
 use std::io;
-use transcript::Typed;
 
 // The most bytes that are judged.
 const MOST: usize = 65535;
@@ -21,8 +20,8 @@ fn main(rt: HostRuntime) -> io::Result<()> {
 fn judge_text(rt: &impl Print, text: &[u8]) -> io::Result<()> {
     let mut bytes = [0u8; transcript::ROOM];
     match transcript::transcribe(text, &mut bytes) {
-        Typed::Sheet(size) => judge_sheet(rt, &bytes[..size]),
-        Typed::Refused(slip) => print_refused(rt, slip.number(), slip.place() as u64),
+        Ok(size) => judge_sheet(rt, &bytes[..size]),
+        Err(slip) => print_refused(rt, slip.number(), slip.place() as u64),
     }
 }
 

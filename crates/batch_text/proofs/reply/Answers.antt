@@ -18,7 +18,7 @@ write-requires c = (
 pub returns : goal.returns
 returns c =
     let long = ap length c.requires.2 in
-    let t = rw (lent-full 5 c.args.size most_room 0xAA c.args.bytes.now c.requires.1 c.requires.2, ← c.number.ensures, ← c.place.ensures) at c.transcribe-typed.ensures in
+    let t = rw (lent-full 5 c.args.size most_room 0xAA c.args.bytes.now c.requires.1 c.requires.2, ← c.number_of.ensures, ← c.place_of.ensures) at c.transcribe-typed.ensures in
     let shape = c.write.auto.out ∙ simp length-set (omega (arith, long)) ∙ long in
     record {
       transcribed = replied (Transcribed _ _) 4 c.args.size c.args.bytes.now c.transcribe-typed.new.room _ _ _ _ (omega arith) (omega arith)

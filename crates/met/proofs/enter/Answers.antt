@@ -1,29 +1,22 @@
 -- `met::enter` meets its contract: keys are looked at from the front, and one that is at no place goes behind them.
 -- Assumes nothing.
-use Prim.Native.Nat.{◌-◌}
-use mathlib.Core.Path.{refl}
+use mathlib.Core.Path.{refl, sym, ◌∙◌}
 use native.Mathlib.Omega.{arith}
-use Rattle.met.proofs.Place.{none_yet, one_more, found, at-end, told-met, told-full, told-new}
+use Rattle.met.proofs.Place.{found, missed, told-met, told-full, told-new}
 use Rattle.met.proofs.enter.Goals as goal
 
-pub loop-j-init : goal.loop-j-init
-loop-j-init c = none_yet _ _ _
-
-pub returns-then-m-j : goal.returns-then-m-j
-returns-then-m-j c =
+pub returns-in-Some : goal.returns-in-Some
+returns-in-Some c =
     let args = c.args in
-    rw (told-met args.m.now args.key args.e (found c.loop-j.invariant (omega arith) (omega arith) c.if-m-j.true) (omega arith)) (record { answer = refl; memory = refl })
-
-pub loop-j-preserved : goal.loop-j-preserved
-loop-j-preserved c =
-    one_more c.loop-j.invariant (omega arith) (omega arith) c.if-m-j.false
+    let there = found args.m.now args.key (omega arith) (sym c.find.ensures ∙ c.in-Some.is) in
+    rw (told-met args.m.now args.key args.e there.0 there.1) (record { answer = refl; memory = refl })
 
 pub returns-then-count-ge-MAX_TERMS : goal.returns-then-count-ge-MAX_TERMS
 returns-then-count-ge-MAX_TERMS c =
     let args = c.args in
-    rw (told-full args.m.now args.key args.e (at-end c.loop-j.invariant (omega arith) (omega arith)) (omega arith)) (record { answer = refl; memory = refl })
+    rw (told-full args.m.now args.key args.e (missed args.m.now args.key (omega arith) (sym c.find.ensures ∙ c.in_default.is)) (omega arith)) (record { answer = refl; memory = refl })
 
 pub returns : goal.returns
 returns c =
     let args = c.args in
-    rw (told-new args.m.now args.key args.e (at-end c.loop-j.invariant (omega arith) (omega arith)) (omega arith)) (record { answer = refl; memory = refl })
+    rw (told-new args.m.now args.key args.e (missed args.m.now args.key (omega arith) (sym c.find.ensures ∙ c.in_default.is)) (omega arith)) (record { answer = refl; memory = refl })

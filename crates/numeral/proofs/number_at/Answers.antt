@@ -1,57 +1,30 @@
 -- `numeral::number_at` meets its contract: it goes on from a number as the model does.
 -- Assumes nothing.
-use Prim.Native.Nat.{◌-◌}
 use mathlib.Core.Path.{refl}
 use native.Mathlib.Omega.{arith}
-use Rattle.numeral.proofs.Going.{digit-there, first-none, first-least, first-digit, behind-zero, out_of_range, one_more, ended}
+use Rattle.numeral.proofs.Going.{first-none, first-least, first-digit, behind-zero, out_of_range, one_more, ended}
 use Rattle.numeral.proofs.number_at.Goals as goal
 
-pub returns-then-first-gt9 : goal.returns-then-first-gt9
-returns-then-first-gt9 c = record {
-  model = first-none _ _ _ _ c.digit_at-first.ensures (omega arith);
-  bounded = tt;
-}
+pub returns-in_default-clause-model : goal.returns-in_default-clause-model
+returns-in_default-clause-model c = first-none _ _ _ _ c.in_default.ensures
 
-pub returns-then-first-least : goal.returns-then-first-least
-returns-then-first-least c = record {
-  model = first-least _ _ _ _ c.digit_at-first.ensures (omega arith) (omega arith);
-  bounded = tt;
-}
-
-pub overflow_add-e : goal.overflow_add-e
-overflow_add-e c =
-    omega (arith, digit-there c.args.s.now c.digit_at-first.ensures (omega arith))
+pub returns-then-first-least-clause-model : goal.returns-then-first-least-clause-model
+returns-then-first-least-clause-model c = let d = c.in-Some.ensures in first-least _ _ _ _ d.1 d.0 (omega arith)
 
 pub loop-d-init : goal.loop-d-init
-loop-d-init c = first-digit _ _ _ _ c.digit_at-first.ensures (omega arith) (omega arith) (omega arith) c.digit_at-d.ensures
+loop-d-init c = let d = c.in-Some.ensures in first-digit _ _ _ _ d.1 d.0 (omega arith) (omega arith)
 
-pub returns-then-n-eq0 : goal.returns-then-n-eq0
-returns-then-n-eq0 c = record {
-  model = behind-zero _ _ _ _ c.loop-d.invariant (omega arith) (omega arith);
-  bounded = tt;
-}
+pub returns-then-n-eq0-clause-model : goal.returns-then-n-eq0-clause-model
+returns-then-n-eq0-clause-model c = let d = c.in-Some-digit_at.ensures in behind-zero _ _ _ _ c.loop-d.invariant d.1 d.0 (omega arith)
 
-pub returns-then-limit-n : goal.returns-then-limit-n
-returns-then-limit-n c = record {
-  model = out_of_range _ _ _ _ c.loop-d.invariant (omega arith) (λ z. omega arith) refl (omega arith);
-  bounded = tt;
-}
-
-pub overflow_add-e-in-loop-d : goal.overflow_add-e-in-loop-d
-overflow_add-e-in-loop-d c =
-    omega (arith, digit-there c.args.s.now c.loop-d.invariant.digit (omega arith))
-
-pub loop-d-smaller : goal.loop-d-smaller
-loop-d-smaller c =
-    omega (arith, digit-there c.args.s.now c.loop-d.invariant.digit (omega arith))
+pub returns-then-limit-n-clause-model : goal.returns-then-limit-n-clause-model
+returns-then-limit-n-clause-model c =
+    let d = c.in-Some-digit_at.ensures in out_of_range _ _ _ _ c.loop-d.invariant d.1 d.0 (λ z. omega arith) refl (omega arith)
 
 pub loop-d-preserved : goal.loop-d-preserved
 loop-d-preserved c =
-    one_more _ _ _ _ c.loop-d.invariant (omega arith) (λ z. omega arith) refl (omega arith) (omega arith) (omega arith)
-    c.digit_at-d-in-loop-d.ensures
+    let d = c.in-Some-digit_at.ensures in
+    one_more _ _ _ _ c.loop-d.invariant d.1 d.0 (λ z. omega arith) refl (omega arith) (omega arith) (omega arith)
 
-pub returns : goal.returns
-returns c = record {
-  model = ended _ _ _ _ c.loop-d.invariant (omega arith);
-  bounded = (c.loop-d.invariant.some, c.loop-d.invariant.small);
-}
+pub returns-clause-model : goal.returns-clause-model
+returns-clause-model c = ended _ _ _ _ c.loop-d.invariant c.in_default-digit_at.ensures

@@ -6,7 +6,7 @@ use Rattle.numeral.proofs.Going.{Going}
 use Rattle.numeral.proofs.number_at.Given as goal
 
 abbrev pub invariant-loop-d : goal.invariant-loop-d
-invariant-loop-d l = Going l.s l.i l.least l.limit l.n l.e l.d
+invariant-loop-d l = Going l.s l.i l.least l.limit l.n l.e
 
 abbrev pub decreases-loop-d : goal.decreases-loop-d
 decreases-loop-d l = length l.s - l.e

@@ -1,12 +1,8 @@
 -- `terms::closed` meets its contract.
 -- Assumes nothing.
 use native.Mathlib.Omega.{arith}
-use Rattle.terms.proofs.Answered.{entered-answers, refused-answers, answers-as, closed-yes, closed-no, within}
+use Rattle.terms.proofs.Answered.{entered-answers, refused-answers, answers-as, closed-yes, closed-no}
 use Rattle.terms.proofs.closed.Goals as goal
-
-pub overflow_add-e : goal.overflow_add-e
-overflow_add-e c =
-    omega (arith, within c.args.s.now c.args.e 40 c.byte_at.ensures c.if-byte_at-eq41.true)
 
 pub returns-then-byte_at-eq41 : goal.returns-then-byte_at-eq41
 returns-then-byte_at-eq41 c =

@@ -1,6 +1,6 @@
 -- The list of a clash stands in the room, behind the record's head.
 -- Assumes nothing.
-use Rattle.std.proofs.Common.{◌≤◌, ap, arith}
+use Rattle.std.proofs.Common.{ap, arith}
 use Rattle.promise.specs.Answered.{number_of, place_of}
 use Rattle.promise.proofs.Unique.{answer-form}
 use Rattle.typed.proofs.judge_sheet.Goals as goal

@@ -7,10 +7,10 @@ use Rattle.typed.proofs.judge_text.Goals as goal
 
 pub slice_bounds-bytes-end : goal.slice_bounds-bytes-end
 slice_bounds-bytes-end g c =
-    let sheet = c.in-Sheet.is in
+    let sheet = c.in-Ok.is in
     omega (arith, c.transcribe.auto.room, sheet-within c.transcribe.ensures (omega (arith, ap number_of sheet)), ap place_of sheet)
 
 pub slice_bounds-judge_sheet-end : goal.slice_bounds-judge_sheet-end
 slice_bounds-judge_sheet-end g c =
-    let sheet = c.in-Sheet.is in
-    sym (length-take-le c.in-Sheet.size _ (omega (arith, c.transcribe.auto.room, sheet-within c.transcribe.ensures (omega (arith, ap number_of sheet)), ap place_of sheet)))
+    let sheet = c.in-Ok.is in
+    sym (length-take-le c.in-Ok.size _ (omega (arith, c.transcribe.auto.room, sheet-within c.transcribe.ensures (omega (arith, ap number_of sheet)), ap place_of sheet)))
