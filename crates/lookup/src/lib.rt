@@ -9,14 +9,9 @@ ghost use Rattle.lookup.specs.LookedUp.{looked_up};
 pub extern "C" fn baruvkesh_tied(d: &[u32], a: usize, b: usize) -> u32
     ensures { result ≡ looked_up d.now a b }
 {
-    if d.len() != table::CELLS {
-        return gap::NONE;
+    if d.len() == table::CELLS && a < table::STRIDE && b < table::STRIDE {
+        table::tied(d, a, b).0
+    } else {
+        gap::NONE
     }
-    if table::STRIDE <= a {
-        return gap::NONE;
-    }
-    if table::STRIDE <= b {
-        return gap::NONE;
-    }
-    table::tied(d, a, b).0
 }
