@@ -13,15 +13,12 @@ use Rattle.settled.specs.Settled.{points}
 use Rattle.settled.proofs.Held.{tied-met}
 use Rattle.steps.specs.Step.{Met}
 use Rattle.steps.specs.True.{EntriesPut}
-use Rattle.steps.proofs.Steps.{changed, refused, followed, entry-tighter}
+use Rattle.steps.proofs.Steps.{followed, entry-tighter}
 use Rattle.ties.specs.Ties.{Checked}
 use Rattle.pairs.specs.Passing.{FunctionsPut}
 use Rattle.verdict.specs.Entered.{RestTrue, RestPut, EnteredPut}
 
 module _ (s : Sheet) (S : Set) (W : WellFormed s) {old new : List ℕ} {r : Bool} (A : FunctionsPut s old new r) where
-  pub not-passed : r ≡ false → RestPut s S old new r
-  not-passed e = rw e (refused e (changed (λ D v q. q.functions) (λ d h. h) A))
-
   module _ (e : r ≡ true) {sound : Bool} (B : Checked s S (cell new) sound) where
     -- a ≠ entry's terms that the table ties at its c are apart by c in whatever meets the table
     none : sound ≡ false → (D : ℕ) (v : ℕ → ℤ) → 1 ≤ D → Met (points s) D (cell old) v → RestTrue s S D v → ⊥
@@ -45,9 +42,6 @@ module _ (s : Sheet) (S : Set) (W : WellFormed s) {old new : List ℕ} {r : Bool
 
 -- and the entries before it
 module _ (s : Sheet) (S : Set) (W : WellFormed s) {old mid : List ℕ} {r : Bool} (A : EntriesPut s S old mid r) where
-  pub not_entered : r ≡ false → EnteredPut s S old mid false
-  not_entered e = refused e (changed (λ D v q. q.entries) (λ d h. h) A)
-
   pub entered : r ≡ true → {new : List ℕ} {b : Bool} → RestPut s S mid new b → EnteredPut s S old new b
   entered e =
       followed (λ D v q. q.entries) (λ D v q. q)

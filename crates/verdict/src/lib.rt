@@ -10,10 +10,10 @@ ghost use Rattle.order.specs.First.{marked};
 ghost use Rattle.sheet.specs.Decode.{Sized, sheet_of};
 ghost use Rattle.sheet.specs.Sheet.{WellFormed, count_entries};
 ghost use Rattle.settled.specs.Settled.{points};
-ghost use Rattle.verdict.specs.Judged.{verdict_of, Judged};
+ghost use Rattle.verdict.specs.Judged.{Judged};
 ghost use Rattle.verdict.specs.Entered.{EnteredPut};
 
-#[derive(Clone, Copy)]
+#[derive(Clone, Copy, PartialEq, Eq, Debug)]
 pub enum Verdict {
     Holds,
     Clashes,
@@ -30,13 +30,7 @@ pub fn on(sheet: &[u8], set: &[bool], d: &mut [u32]) -> Verdict
     if !bounds::put_terms(sheet, d) {
         return Verdict::Clashes;
     }
-    told(finish(sheet, set, d))
-}
-
-fn told(sound: bool) -> Verdict
-    ensures { result ≡ verdict_of sound }
-{
-    if sound {
+    if finish(sheet, set, d) {
         Verdict::Holds
     } else {
         Verdict::Clashes
