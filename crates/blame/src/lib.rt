@@ -37,9 +37,7 @@ pub fn leave_out(sheet: &[u8], marks: &mut [bool], d: &mut [u32])
     ensures first { FirstClash (sheet_of sheet.now) (marked marks.new) }
     ensures kept { Kept (points (sheet_of sheet.now)) d.old d.new }
 {
-    let mut r = reading::count_entries(sheet);
-    while 0 < r {
-        r -= 1;
+    for r in (0..reading::count_entries(sheet)).rev() {
         marks[r] = false;
         if !clashes(sheet, marks, d) {
             marks[r] = true;
@@ -58,8 +56,5 @@ fn clashes(sheet: &[u8], set: &[bool], d: &mut [u32]) -> bool
     if guess::values(sheet, set, &mut v) {
         return false;
     }
-    match verdict::on(sheet, set, d) {
-        Verdict::Holds => false,
-        Verdict::Clashes => true,
-    }
+    verdict::on(sheet, set, d) == Verdict::Clashes
 }

@@ -1,9 +1,6 @@
 -- `blame::leave_out` meets its contract. The loop's invariant: the entries from r up are done (order, `GoneDown`).
 -- Assumes nothing.
-use Prim.Native.Nat.{◌≤◌}
-use mathlib.Core.Path.{◌≡◌}
-use lib.ListN.{length}
-use Rattle.cells.specs.Cells.{cells, Kept}
+use Rattle.cells.specs.Cells.{Kept}
 use Rattle.order.specs.First.{marked, number}
 use Rattle.order.specs.Down.{GoneDown}
 use Rattle.sheet.specs.Decode.{sheet_of}
@@ -14,8 +11,5 @@ use Rattle.blame.proofs.leave_out.Given as goal
 
 abbrev pub invariant-loop-r : goal.invariant-loop-r
 invariant-loop-r l =
-    (l.r ≤ count_entries (sheet_of l.sheet)) × (length l.marks ≡ length l.initial.marks) × (length l.d ≡ cells) × Kept (points (sheet_of l.sheet)) l.initial.d l.d
+    Kept (points (sheet_of l.sheet)) l.initial.d l.d
     × GoneDown (Clashes (sheet_of l.sheet)) (count_entries (sheet_of l.sheet)) number l.r (marked l.marks)
-
-abbrev pub decreases-loop-r : goal.decreases-loop-r
-decreases-loop-r l = l.r
