@@ -45,7 +45,7 @@ fn word(way: Way, gap: u64, from: u8, to: u8) -> u64
     ((way as u64 * RANGE + gap) * 256 + from as u64) * 256 + to as u64
 }
 
-// The number of the way that a leg may be gone, and 0 for one that isn't there.
+// The number of the way that a leg may be gone, and 0 for one that isn't there: it is only compared, so that no leg is decoded to a Way.
 fn code(leg: u64) -> u8
     ensures { result ≡ way_of leg }
 {

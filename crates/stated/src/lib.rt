@@ -9,7 +9,7 @@ ghost use Rattle.stated.specs.Said.{record_at};
 pub const WALK: usize = sheet::MAX_TERMS + 1;
 
 // `c` is two's complement. `first` and `second` are the numbers of bounds of the two walks; what stands behind so many in `there` and
-// `back` says nothing. A bound is its kind times 256, and a number.
+// `back` says nothing. A bound is its kind times 256, and a number. Kinds are numbers, since anybody may state any.
 #[derive(Clone, Copy)]
 pub struct Step {
     pub kind: u8,

@@ -29,6 +29,7 @@ pub fn ruling_on(sheet: &[u8], listed: &[bool], legs: &[u64], links: &[u64], s: 
     requires { Asked sheet.now legs.now links.now × (length listed.now ≡ 256) }
     ensures { (steps : List RuleStep) (n : ℕ) → Known (sheet_of sheet.now) (marked listed.now) steps n legs.now links.now → Ruled (sheet_of sheet.now) (marked listed.now) steps n s result }
 {
+    // A number, no enum: a record as anybody states it may have any.
     match s.kind {
         0 => ruled(by_walks(sheet, legs, links, s), Ruling::Ties),
         1 => ruled(by_functions(sheet, legs, links, s), Ruling::Ties),
