@@ -1,42 +1,32 @@
--- The list of a set's numbers grows by one entry at a time.
+-- The numbers of a set's entries that stand from a place on are its list.
 -- Assumes nothing.
-use Prim.Native.Nat.{ℕ, ◌+◌, ◌≤◌, ◌<◌}
-use mathlib.Core.Path.{◌≡◌, refl, ◌∙◌}
-use mathlib.Core.Bool.{true, false}
-use mathlib.Core.List.{List, [], ◌∷◌, ◌++◌}
-use lib.ListN.{length, get_or, set, length-append, get_or-append}
-use lib.Seq.{set_at}
-use native.Mathlib.Omega.{arith}
+use Rattle.std.proofs.Common.{◌≡◌, ℕ, ◌+◌, ◌≤◌, ◌<◌, List, length, get_or, take, drop, length-take, length-drop, get_or-take, ap, ◌∙◌, arith}
+use Rattle.big.specs.Big.{Kept}
 use Rattle.order.specs.First.{Set, Listed}
-use Rattle.order.proofs.Lists.{listed-none, listed_in, listed-out}
 use Rattle.paper.specs.Written.{Lists}
-use Rattle.paper.proofs.Pieces.{nothing, byte, then}
 
-pub lists-none : (A : Set) (b : List ℕ) (at : ℕ) → Lists 0 A b b at 0
-lists-none A b at = record { list = []; count = refl; listed = listed-none A []; written = nothing b at (at + 0) (omega arith) }
-
-pub lists-out : {x : ℕ} {A : Set} {old new : List ℕ} {at k : ℕ} → A x ≡ false → Lists x A old new at k → Lists (x + 1) A old new at k
-lists-out {x} {A} {k} e L = record { list = L.list; count = L.count; listed = listed-out A L.list x k e L.listed; written = L.written }
-
--- a list with one number more behind it, which isn't counted yet
-listed-room : (L : ℕ) (A : Set) (b : List ℕ) (k : ℕ) → k ≤ length b → Listed L A b k → Listed L A (b ++ (0 ∷ [])) k
-listed-room L A b k l p = record {
-  entry = λ i h. rw (same i h) (p.entry i h);
-  one = λ i h. rw (same i h) (p.one i h);
-  rising = λ i j h q. rw (same i (omega arith), same j q) (p.rising i j h q);
-  all = λ x h e. let (i, q, r) = p.all x h e in (i, q, same i q ∙ r);
+pub lists : {L : ℕ} {A : Set} {old : List ℕ} (new : List ℕ) {at k : ℕ} → at + k ≤ length new → length new ≡ length old → Listed L A (drop at new) k →
+    Kept old new at k → Lists L A old new at k
+lists new {at} {k} fits size listed kept = record {
+  list = take k (drop at new);
+  count = count;
+  listed = record {
+    entry = λ i h. rw (same i h) (listed.entry i h);
+    one = λ i h. rw (same i h) (listed.one i h);
+    rising = λ i j h l. rw (same i (omega arith), same j l) (listed.rising i j h l);
+    all = λ x h e. let (i, l, is) = listed.all x h e in (i, l, same i l ∙ is);
+  };
+  written = record {
+    end_is = omega (arith, count);
+    bytes-are = ap (λ (n : ℕ). take n (drop at new)) count;
+    before = kept.before;
+    after = kept.after;
+    size = size;
+  };
 }
   where
-    same : (i : ℕ) → i < k → get_or (b ++ (0 ∷ [])) i 0 ≡ get_or b i 0
-    same i h = get_or-append b (0 ∷ []) 0 i (omega arith)
+    count : length (take k (drop at new)) ≡ k
+    count = simp (length-take, length-drop) (omega arith)
 
-pub lists-in : {x : ℕ} {A : Set} {old new : List ℕ} {at k : ℕ} → A x ≡ true → at + k < length new → Lists x A old new at k →
-    Lists (x + 1) A old (set new (at + k) x) at (k + 1)
-lists-in {x} {A} {new} {at} {k} e l L = record {
-  list = L.list ++ (x ∷ []);
-  count = simp length-append (omega (arith, L.count));
-  listed = rw (set_at L.list 0 [] x k L.count) at
-      (listed_in A (L.list ++ (0 ∷ [])) x k e (simp length-append (omega (arith, L.count)))
-      (listed-room x A L.list k (omega (arith, L.count)) L.listed));
-  written = then L.written (byte new (at + k) (at + (k + 1)) x l (omega arith));
-}
+    same : (i : ℕ) → i < k → get_or (take k (drop at new)) i 0 ≡ get_or (drop at new) i 0
+    same i h = get_or-take k (drop at new) i 0 h

@@ -1,6 +1,6 @@
 // The reason record as code writes it: its head, its list, and its steps one behind the other.
-// It rests on big's way of writing numbers and on the writer's memory (sketch), and promises the record's bytes (specs/Record.antt) and that
-// the rest of the room is as it was.
+// It rests on big's way of writing numbers, on listing's list and on the writer's memory (sketch), and promises the record's bytes
+// (specs/Record.antt) and that the rest of the room is as it was.
 #![tactic(auto)]
 
 ghost use Rattle.std.specs.Prelude.{◌≡◌, true, ◌∷◌, ℕ, ◌+◌, ◌*◌, ◌^◌, ◌≤◌, ◌<◌, length, get_or};
@@ -59,14 +59,7 @@ pub fn list(room: &mut [u8], marks: &[bool], n: usize) -> usize
     requires { (n ≤ length marks.now) × (head_length + n ≤ length room.old) × (n ≤ 256) }
     ensures { Lists n (marked marks.now) room.old room.new head_length result }
 {
-    let mut k = 0;
-    for x in 0..n {
-        if marks[x] {
-            room[HEAD + k] = x as u8;
-            k += 1;
-        }
-    }
-    k
+    listing::list(room, HEAD, marks, n)
 }
 
 // The head of a record of size bytes.
