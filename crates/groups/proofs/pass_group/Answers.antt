@@ -2,6 +2,7 @@
 -- Assumes nothing.
 use mathlib.Core.Path.{◌≡◌}
 use native.Mathlib.Omega.{arith}
+use Rattle.std.proofs.Common.{rules}
 use Rattle.std.proofs.lemmas.Result.{err_from_is_err_and}
 use Rattle.pairs.proofs.Passes.{same, sofar-table, more, ended, clash-after}
 use Rattle.groups.proofs.Groups.{none-paired, one-paired}
@@ -19,7 +20,7 @@ returns-in_err-fresh c =
     rw p.1 (clash-after _ c.loop-q.invariant c.in_err-fresh.ensures)
 
 pub loop-q-preserved : goal.loop-q-preserved
-loop-q-preserved c = more _ one-paired c.loop-q.invariant c.in_ok-fresh.ensures
+loop-q-preserved c = search (rules, more, one-paired)
 
 pub returns : goal.returns
 returns c =
