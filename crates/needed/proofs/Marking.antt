@@ -13,7 +13,6 @@ use mathlib.Core.List.Memᴰ.{eq_of_singleton as the_one}
 use mathlib.Core.Logic.{◌⊎◌, inl, inr, ⊎_elim}
 use lib.ListN.{length, get_or, set}
 use lib.Seq.{get_or-set_same, get_or-set_other}
-use native.Mathlib.Omega.{arith}
 use native.Mathlib.Decide.{ℕ_discrete}
 use Rattle.order.specs.First.{marked}
 use Rattle.needed.specs.Needed.{NamedIn, Marks}
@@ -22,14 +21,6 @@ pub marks-none : (names : List ℕ) (need : List Bool) → Marks names [] need n
 marks-none names need = record { on = λ t N. absurd (not-nil N.there); stays = λ t m. m; only = λ t m. inl m }
 
 module _ (names : List ℕ) (e : ℕ) (need : List Bool) where
-  pub marks-nothing : get_or names e 0 < 1024 → Marks names (e ∷ []) need need
-  marks-nothing l =
-      record {
-        on = λ t N. let f = ap (λ (b : ℕ). get_or names b 0) (the_one N.there) in absurd (omega (arith, N.a-tie));
-        stays = λ t m. m;
-        only = λ t m. inl m;
-      }
-
   module _ (h : 1024 ≤ get_or names e 0) (l : get_or names e 0 % 256 < length need) where
     abbrev new : List Bool
     new = set need (get_or names e 0 % 256) true

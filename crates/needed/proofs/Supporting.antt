@@ -11,15 +11,14 @@ use native.Mathlib.Omega.{arith}
 use Rattle.kind.specs.Kind.{Kind}
 use Rattle.cells.specs.Cells.{stride}
 use Rattle.order.specs.First.{marked}
-use Rattle.sheet.specs.Sheet.{Sheet, count_terms, term_at}
+use Rattle.sheet.specs.Sheet.{Sheet, term_at}
 use Rattle.settled.specs.Settled.{points}
 use Rattle.layers.specs.Bounds.{Bounds, bounds, Sound, Goes, Reachable, Least}
 use Rattle.layers.proofs.Rests.{reachable, tie-to, tie-back}
 use Rattle.sketch.specs.Sketch.{place, numbers_at, how_of, left, right}
-use Rattle.laid.specs.Laid.{OfFunctions}
 use Rattle.needed.specs.Needed.{NamedIn, Found, FoundBoth, WalkOn, Leads}
 use Rattle.needed.specs.Needed.Leads.{there as leads-there, back as leads-back, arguments as leads-between}
-use Rattle.needed.specs.Support.{InOneGroup, Walkable, Grounds, Argued, Supported}
+use Rattle.needed.specs.Support.{Walkable, Grounds, Argued, Supported}
 use Rattle.needed.proofs.Copying.{numbers-kept, goes-below}
 
 -- a walk that is found is the least
@@ -82,10 +81,6 @@ module _ {s : Sheet} {froms tos codes names ties : List ℕ} {t e : ℕ} (a< : l
 
 -- the points and their number as the code has them
 module _ {s : Sheet} {ties : List ℕ} {t a b : ℕ} (a-is : a ≡ left ties t) (b-is : b ≡ right ties t) where
-  pub asked-arguments : {labels : List ℕ} → OfFunctions s ties labels t
-      → (a < count_terms s) × (b < count_terms s) × InOneGroup labels t (term_at s a) (term_at s b)
-  asked-arguments O = rw (a-is, b-is) (O.left<, O.right<, O.arguments)
-
   pub supported-arguments : {froms tos codes names walks : List ℕ} {need need' : List Bool} → how_of (get_or ties t 0) ≡ 0
       → Argued ties t (term_at s a) (term_at s b) need need' → Supported s froms tos codes names ties t walks walks need need'
   supported-arguments how A =

@@ -16,6 +16,7 @@ ghost use Rattle.laid.specs.Laid.{Laid};
 ghost use Rattle.needed.specs.Needed.{Marks, Found, FoundBoth, FoundRound, Gathered};
 ghost use Rattle.needed.specs.Support.{InOneGroup, Grounds, Argued, Supported};
 
+use sheet::{Term, TermNumber};
 use sketch::{ENDING, PLACE, TIE};
 
 // For an ending by bound e, which closes a walk under zero: the least walk back over the bounds before it.
@@ -36,8 +37,8 @@ pub fn round(
     ensures found { FoundRound n (bounds e froms.now tos.now codes.now) names.now e ending walks.old walks.new need.old need.new }
     ensures kept { Kept n best.old best.new }
 {
-    let from = froms[e] as usize;
-    let to = tos[e] as usize;
+    let from = usize::from(froms[e]);
+    let to = usize::from(tos[e]);
     find(
         froms, tos, codes, names, e, n, to, from, best, need, walks, ENDING,
     );
@@ -107,9 +108,7 @@ pub fn gather(
     ensures kept { Kept (points (sheet_of sheet.now)) best.old best.new }
 {
     let n = reading::count_terms(sheet) + 1;
-    let mut t = count;
-    while 0 < t {
-        t -= 1;
+    for t in (0..count).rev() {
         if need[t] {
             support(
                 sheet, froms, tos, codes, names, n, ties[t], ties, labels, t, best, need, walks,
@@ -143,24 +142,24 @@ fn support(
 {
     let a = sketch::left(tie);
     let b = sketch::right(tie);
-    let how = sketch::how(tie);
-    if how == 0 {
-        return arguments(sheet, ties, labels, need, n, t, a, b);
+    // By functions, or by walks over the first m bounds.
+    match sketch::how(tie).checked_sub(1) {
+        None => arguments(sheet, ties, labels, need, n, t, a, b),
+        Some(m) => both(
+            froms,
+            tos,
+            codes,
+            names,
+            m,
+            n,
+            a,
+            b,
+            best,
+            need,
+            walks,
+            2 * t,
+        ),
     }
-    both(
-        froms,
-        tos,
-        codes,
-        names,
-        how - 1,
-        n,
-        a,
-        b,
-        best,
-        need,
-        walks,
-        2 * t,
-    );
 }
 
 // The paths between the arguments of two applications.
@@ -179,11 +178,18 @@ fn arguments(
     requires labelled { Labelled n ties.now labels.now t × InOneGroup labels.now t (term_at (sheet_of sheet.now) i) (term_at (sheet_of sheet.now) j) }
     ensures { Argued ties.now t (term_at (sheet_of sheet.now) i) (term_at (sheet_of sheet.now) j) need.old need.new }
 {
-    let f = reading::fields_at(sheet, 6 + 6 * i);
-    let g = reading::fields_at(sheet, 6 + 6 * j);
-    forest::mark(labels, ties, need, n, t, f.a as usize, g.a as usize);
-    if f.kind == 4 {
-        forest::mark(labels, ties, need, n, t, f.b as usize, g.b as usize);
+    let own = reading::term_at(sheet, TermNumber(i as u8));
+    let other = reading::term_at(sheet, TermNumber(j as u8));
+    match (own, other) {
+        (Term::Apply(_, a), Term::Apply(_, b)) => {
+            forest::mark(labels, ties, need, n, t, a.0 as usize, b.0 as usize);
+        }
+        (Term::Apply2(_, a, c), Term::Apply2(_, b, d)) => {
+            forest::mark(labels, ties, need, n, t, a.0 as usize, b.0 as usize);
+            forest::mark(labels, ties, need, n, t, c.0 as usize, d.0 as usize);
+        }
+        // Terms with the same input are applications, to one argument both or to two.
+        _ => unreachable!(),
     }
 }
 
@@ -212,11 +218,9 @@ fn find(
     let mut out = [0u16; sheet::MAX_TERMS + 1];
     let k = layers::walk(froms, tos, codes, m, n, a, b, best, &mut out);
     walks[head] = k as u16;
-    let mut x = 0;
-    while x < k {
+    for x in 0..k {
         walks[head + 1 + x] = out[x];
         mark_bound(names, need, out[x] as usize);
-        x += 1;
     }
 }
 

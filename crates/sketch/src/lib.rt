@@ -21,6 +21,7 @@ pub const ENDING: usize = 2 * sheet::MAX_TERMS;
 pub const WALKS: usize = (ENDING + 2) * PLACE;
 
 // A tie's points, and how it comes: 0 by functions, else by walks over fewer bounds than this.
+// That is a number and no Option: memory has one number for each tie, and specs/ says of that number what step it means.
 pub fn left(tie: u32) -> usize
     ensures { result ≡ left_of tie }
 {

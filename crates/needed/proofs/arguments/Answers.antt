@@ -1,75 +1,70 @@
--- `needed::arguments` meets its contract: it reads the two records and marks the paths (proofs/Arguing.antt).
+-- `needed::arguments` meets its contract: the paths between first arguments are marked, then between second, where there are two
+-- (proofs/Arguing.antt).
 -- Assumes nothing.
-use Prim.Native.Nat.{ℕ}
-use mathlib.Core.Path.{◌≡◌, sym, ap, ◌∙◌}
-use native.Mathlib.Omega.{arith}
-use Rattle.cells.specs.Cells.{cell}
-use Rattle.sheet.specs.Decode.{decode_term, sheet_of}
-use Rattle.sheet.specs.Sheet.{Term, term_at}
-use Rattle.sheet.proofs.Below.{arguments-wider}
-use Rattle.sheet.proofs.Decode.{terms-stated, term-decoded}
-use Rattle.needed.proofs.Arguing.{Faced, faced, firsts, seconds, argued-one, argued-two}
-use Rattle.needed.proofs.arguments.Lts as lts
-use Rattle.needed.proofs.arguments.Reads as reads
-use Rattle.needed.proofs.arguments.Tie as tie
+use Rattle.std.proofs.Common.{arith}
+use Rattle.laid.proofs.Inputs.{points-below, applied, applied2, one-below, two-below, other-one, other-two, other-none, in-one, in-two}
+use Rattle.needed.proofs.Arguing.{argued-one, argued-two}
 use Rattle.needed.proofs.arguments.Goals as goal
+use Rattle.needed.proofs.arguments.Goals.{in_default-via-in-Apply+in_default, in_default-via-in-Apply2+in_default, in_default-via-in_default}
 
-abbrev After-fields_at2 : Type 0
-After-fields_at2 = lts.After-fields_at2 tie.the-claims reads.Pre reads.Post tie.handed_clauses
+pub mark-requires-clause-labels_len : goal.mark-requires-clause-labels_len
+mark-requires-clause-labels_len c =
+    let pre = c.requires.sized in
+    let own = one-below c.term_at-own.ensures (points-below _ _ pre.2 pre.1 pre.3) c.in-Apply-Apply.is-0 in
+    let other = one-below c.term_at-other.ensures (points-below _ _ pre.2 pre.1 pre.4) c.in-Apply-Apply.is-1 in
+    omega (arith, pre.1.terms)
 
-abbrev label_of : After-fields_at2 → ℕ → ℕ
-label_of r = cell r.args.labels.now r.args.t
+pub mark-requires-clause-labelled : goal.mark-requires-clause-labelled
+mark-requires-clause-labelled c =
+    let L = c.requires.labelled in
+    (L.0, (in-one c.term_at-own.ensures c.term_at-other.ensures L.1 c.in-Apply-Apply.is-0 c.in-Apply-Apply.is-1).1)
 
-abbrev term_of : After-fields_at2 → ℕ → Term
-term_of r = term_at (sheet_of r.args.sheet.now)
+pub mark-requires-in-Apply2-Apply2-clause-labels_len : goal.mark-requires-in-Apply2-Apply2-clause-labels_len
+mark-requires-in-Apply2-Apply2-clause-labels_len c =
+    let pre = c.requires.sized in
+    let own = two-below c.term_at-own.ensures (points-below _ _ pre.2 pre.1 pre.3) c.in-Apply2-Apply2.is-0 in
+    let other = two-below c.term_at-other.ensures (points-below _ _ pre.2 pre.1 pre.4) c.in-Apply2-Apply2.is-1 in
+    omega (arith, pre.1.terms)
 
--- what both records say
-read : (r : After-fields_at2) → Faced (λ a b. label_of r a ≡ label_of r b) r.args.n r.fields_at-f.result r.fields_at-g.result
-    (term_of r r.args.i) (term_of r r.args.j)
-read r =
-    let pre = r.requires in
-    let wf = pre.sized.1 in
-    faced (ap decode_term r.fields_at-f.ensures ∙ sym (term-decoded _ _ pre.sized.3))
-    (ap decode_term r.fields_at-g.ensures ∙ sym (term-decoded _ _ pre.sized.4))
-    (arguments-wider (omega arith) (wf.arguments _ pre.sized.3)) (arguments-wider (omega arith) (wf.arguments _ pre.sized.4)) pre.labelled.1
+pub mark-requires-in-Apply2-Apply2-clause-labelled : goal.mark-requires-in-Apply2-Apply2-clause-labelled
+mark-requires-in-Apply2-Apply2-clause-labelled c =
+    let L = c.requires.labelled in
+    (L.0, omega (arith, in-two c.term_at-own.ensures c.term_at-other.ensures L.1 c.in-Apply2-Apply2.is-0 c.in-Apply2-Apply2.is-1))
 
-pub fields_at-f-requires : goal.fields_at-f-requires
-fields_at-f-requires c =
-    omega (arith, terms-stated c.args.sheet.now, c.requires.sized)
+pub mark-requires-in-Apply2-Apply2-2-clause-labels_len : goal.mark-requires-in-Apply2-Apply2-2-clause-labels_len
+mark-requires-in-Apply2-Apply2-2-clause-labels_len c =
+    let pre = c.requires.sized in
+    let own = two-below c.term_at-own.ensures (points-below _ _ pre.2 pre.1 pre.3) c.in-Apply2-Apply2.is-0 in
+    let other = two-below c.term_at-other.ensures (points-below _ _ pre.2 pre.1 pre.4) c.in-Apply2-Apply2.is-1 in
+    omega (arith, pre.1.terms)
 
-pub fields_at-g-requires : goal.fields_at-g-requires
-fields_at-g-requires c =
-    omega (arith, terms-stated c.args.sheet.now, c.requires.sized)
+pub mark-requires-in-Apply2-Apply2-2-clause-labelled : goal.mark-requires-in-Apply2-Apply2-2-clause-labelled
+mark-requires-in-Apply2-Apply2-2-clause-labelled c =
+    let L = c.requires.labelled in
+    (L.0, omega (arith, in-two c.term_at-own.ensures c.term_at-other.ensures L.1 c.in-Apply2-Apply2.is-0 c.in-Apply2-Apply2.is-1))
 
-pub mark-requires : goal.mark-requires
-mark-requires c =
-    let pre = c.requires in
-    let F = firsts (read c.before.before.before.before) in record {
-      labels_len = (pre.labels_len.0, omega (arith, pre.sized.1.terms, pre.sized.2), pre.labels_len.1, pre.labels_len.2, pre.labels_len.3, F.left<, F.right<);
-      labelled = (pre.labelled.0, F.alike);
-    }
+pub unreachable-requires : goal.unreachable-requires
+unreachable-requires c =
+    let P = c.term_at-own.ensures in
+    let Q = c.term_at-other.ensures in
+    let I = c.requires.labelled.1 in
+    elim c.in_default.branch [
+      | in_default-via-in-Apply+in_default w ↦ other-one P Q I w.in_default.is-0 w.in_default.not-Apply-1
+      | in_default-via-in-Apply2+in_default w ↦ other-two P Q I w.in_default.is-0 w.in_default.not-Apply2-1
+      | in_default-via-in_default w ↦ other-none P I w.in_default.not-Apply-0 w.in_default.not-Apply2-0
+    ]
 
-pub mark-requires-then-f-eq4 : goal.mark-requires-then-f-eq4
-mark-requires-then-f-eq4 c =
-    let pre = c.requires in
-    let F = seconds (read c.before.before.before.before.before.before.before.before.before.before.before.before) c.if-f-eq4.true in record {
-      labels_len = (
-        pre.labels_len.0,
-        omega (arith, pre.sized.1.terms, pre.sized.2),
-        pre.labels_len.1,
-        pre.labels_len.2,
-        omega (arith, c.mark.auto.need, pre.labels_len.3),
-        F.left<,
-        F.right<,
-      );
-      labelled = (pre.labelled.0, F.alike);
-    }
+pub returns-in-Apply-Apply : goal.returns-in-Apply-Apply
+returns-in-Apply-Apply c =
+    let P = c.term_at-own.ensures in
+    let Q = c.term_at-other.ensures in
+    let W = c.in-Apply-Apply in
+    argued-one (applied P W.is-0) (applied Q W.is-1) (in-one P Q c.requires.labelled.1 W.is-0 W.is-1).0 c.mark.ensures
 
-pub returns-then-f-eq4 : goal.returns-then-f-eq4
-returns-then-f-eq4 c =
-    argued-two (read c.before.before.before.before.before.before.before.before.before.before.before.before.before.before.before) c.if-f-eq4.true
-    c.mark.ensures c.mark-then-f-eq4.ensures
-
-pub returns-else-f-eq4 : goal.returns-else-f-eq4
-returns-else-f-eq4 c =
-    argued-one (read c.before.before.before.before.before.before.before.before.before) c.if-f-eq4.false c.mark.ensures
+pub returns-in-Apply2-Apply2 : goal.returns-in-Apply2-Apply2
+returns-in-Apply2-Apply2 c =
+    let P = c.term_at-own.ensures in
+    let Q = c.term_at-other.ensures in
+    let W = c.in-Apply2-Apply2 in
+    argued-two (applied2 P W.is-0) (applied2 Q W.is-1) (in-two P Q c.requires.labelled.1 W.is-0 W.is-1).0 c.mark-in-Apply2-Apply2.ensures
+    c.mark-in-Apply2-Apply2-2.ensures
