@@ -25,10 +25,8 @@ pub fn mark(s: Step, entries: &mut [bool])
     requires { (length entries.old ≡ 256) × Formed s × (s.first ≤ 129) × (s.second ≤ 129) }
     ensures { OwnMarked s entries.old entries.new }
 {
-    let there = s.there;
-    let back = s.back;
-    mark_walk(&there, s.first, entries);
-    mark_walk(&back, s.second, entries);
+    mark_walk(&s.there, s.first, entries);
+    mark_walk(&s.back, s.second, entries);
     if s.kind == 3 {
         entries[s.a as usize] = true;
     }
@@ -50,15 +48,12 @@ pub fn rests(sheet: &[u8], links: &[u64], paths: &[u64], s: Step) -> Ties
     requires { Lent sheet.now links.now paths.now × Standing sheet.now links.now paths.now s }
     ensures { (listed : Set) (steps : List RuleStep) (m : ℕ) (legs : List ℕ) (n : ℕ) → Stands (sheet_of sheet.now) listed steps m legs links.now paths.now n s → RestsOn (sheet_of sheet.now) steps n s result }
 {
-    let kind = s.kind;
-    match kind {
+    match s.kind {
         1 => between_inputs(sheet, links, paths, s.a, s.b),
         3 => between_terms(sheet, links, paths, s.a),
         _ => {
-            let there = s.there;
-            let back = s.back;
-            let first = of_walk(&there, s.first);
-            let second = of_walk(&back, s.second);
+            let first = of_walk(&s.there, s.first);
+            let second = of_walk(&s.back, s.second);
             sets::either(first, second)
         }
     }

@@ -22,13 +22,13 @@ between_terms-requires c =
 
 pub of_walk-first-requires : goal.of_walk-first-requires
 of_walk-first-requires c =
-    let few = walks-few c.requires.0.well-formed c.requires.1.stands c.in_default.in_default-own.rest.0.1 c.in_default.in_default-own.rest.1 in
+    let few = walks-few c.requires.0.well-formed c.requires.1.stands (search rules) (search rules) in
     let long : length c.args.s.there ≡ 129 = search rules in
     (omega (arith, few), λ t A. named-few c.requires.0.well-formed c.requires.1.stands (inl A))
 
 pub of_walk-second-requires : goal.of_walk-second-requires
 of_walk-second-requires c =
-    let few = walks-few c.requires.0.well-formed c.requires.1.stands c.in_default.in_default-own.rest.0.1 c.in_default.in_default-own.rest.1 in
+    let few = walks-few c.requires.0.well-formed c.requires.1.stands (search rules) (search rules) in
     let long : length c.args.s.back ≡ 129 = search rules in
     (omega (arith, few), λ t A. named-few c.requires.0.well-formed c.requires.1.stands (inr A))
 
@@ -45,5 +45,5 @@ returns-in-3 c =
 pub returns-in_default : goal.returns-in_default
 returns-in_default c =
     λ listed steps m legs n S.
-    walks-rest c.requires.0.well-formed S c.in_default.in_default-own.rest.0.1 c.in_default.in_default-own.rest.1 c.of_walk-first.ensures
+    walks-rest c.requires.0.well-formed S (search rules) (search rules) c.of_walk-first.ensures
     c.of_walk-second.ensures c.either.ensures
