@@ -2,11 +2,10 @@
 -- Assumes nothing.
 use Prim.Native.Nat.{ℕ}
 use mathlib.Core.Path.{◌≡◌, refl}
-use mathlib.Core.Bool.{Bool, true, false, not}
+use mathlib.Core.Bool.{Bool, true, false}
 use mathlib.Core.List.{List}
 use lib.ListN.{replicate}
 use Rattle.std.specs.Prelude.{Result, Ok, Err}
-use borrow.Author.Tests.{not-true, not-false}
 use Rattle.order.specs.First.{marked}
 use Rattle.sheet.specs.Decode.{stated_entries, sheet_of}
 use Rattle.sheet.specs.Limits.{room_needed}
@@ -23,13 +22,13 @@ use Rattle.surveyor.specs.declared.Survey.{Survey}
 use Rattle.surveyor.specs.declared.Survey.TheVariants as survey
 
 module _ (sheet list : List ℕ) (listed : List Bool) (r : Bool) (h : RisesSays (stated_entries sheet) list listed r) where
-  pub list-none : not r ≡ true → Rises (count_entries (sheet_of sheet)) list → ⊥
+  pub list-none : r ≡ false → Rises (count_entries (sheet_of sheet)) list → ⊥
   unfolding RisesSays
-  list-none e R = (rw (not-true r e) at h) (rw (entries-stated sheet) at R)
+  list-none e R = (rw e at h) (rw (entries-stated sheet) at R)
 
-  pub list-some : not r ≡ false → Marks (count_entries (sheet_of sheet)) list listed
+  pub list-some : r ≡ true → Marks (count_entries (sheet_of sheet)) list listed
   unfolding RisesSays
-  list-some e = rw (entries-stated sheet) (rw (not-false r e) at h)
+  list-some e = rw (entries-stated sheet) (rw e at h)
 
 pub all-fine : {sheet list : List ℕ} {listed : List Bool} {old legs : List ℕ} → old ≡ replicate 768 0 → refusal sheet room_needed ≡ fine →
     Marks (count_entries (sheet_of sheet)) list listed → Laid (sheet_of sheet) (marked listed) old legs → AllFine sheet list listed legs

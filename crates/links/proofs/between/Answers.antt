@@ -7,12 +7,6 @@ use Rattle.links.specs.Links.{root, Climbs}
 use Rattle.links.proofs.Climbing.{gap-small}
 use Rattle.links.proofs.between.Goals as goal
 
-pub find-x-requires : goal.find-x-requires
-find-x-requires c = c.requires
-
-pub find-y-requires : goal.find-y-requires
-find-y-requires c = c.requires
-
 pub overflow_sub-result : goal.overflow_sub-result
 overflow_sub-result c = let h = gap-small c.find-y.ensures in omega arith
 

@@ -4,12 +4,6 @@ use mathlib.Core.Path.{sym, subst}
 use Rattle.routes.specs.Routes.{FromBoth, both}
 use Rattle.routes.proofs.between.Goals as goal
 
-pub upwards-x-requires : goal.upwards-x-requires
-upwards-x-requires c = c.requires
-
-pub upwards-y-requires : goal.upwards-y-requires
-upwards-y-requires c = c.requires
-
 pub returns : goal.returns
 returns c = λ u.
     let args = c.args in

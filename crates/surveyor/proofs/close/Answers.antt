@@ -18,9 +18,6 @@ pub gather-requires : goal.gather-requires
 gather-requires c =
     (c.requires.lent, record { listed = _; last = c.args.n; legs = _; among = omega arith; upright = c.requires.upright }, refl, refl)
 
-pub count_entries-requires : goal.count_entries-requires
-count_entries-requires c = omega (arith, c.requires.lent.sized.whole)
-
 pub same-requires : goal.same-requires
 same-requires c =
     let pre = c.requires in

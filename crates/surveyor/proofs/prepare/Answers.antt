@@ -17,14 +17,14 @@ bounds-sheet-4 c = omega (arith, (fine-formed _ (fine-sheet _ _ (sym c.in_ok-che
 pub returns-then-not-rises : goal.returns-then-not-rises
 unfolding ReadySays
 returns-then-not-rises c =
-    (sym c.in_ok-check.ensures, list-none _ _ _ _ c.rises.ensures c.if-not-rises.true-raw)
+    (sym c.in_ok-check.ensures, list-none _ _ _ _ c.rises.ensures c.if-not-rises.true)
 
 pub lay-requires : goal.lay-requires
 lay-requires c =
     let (sized, formed) = fine-formed _ (fine-sheet _ _ (sym c.in_ok-check.ensures)).0 in (
       sized,
       formed,
-      (list-some c.args.sheet.now c.args.list.now _ c.rises.result c.rises.ensures c.if-not-rises.false-raw).size,
+      (list-some c.args.sheet.now c.args.list.now _ c.rises.result c.rises.ensures c.if-not-rises.false).size,
       ap length c.requires.1 ∙ length-replicate {A = ℕ} 768 0,
     )
 
@@ -38,4 +38,4 @@ pub returns : goal.returns
 unfolding ReadySays
 returns c =
     all-fine c.requires.1 (sym c.in_ok-check.ensures)
-    (list-some _ _ _ _ c.rises.ensures c.if-not-rises.false-raw) c.lay.ensures
+    (list-some _ _ _ _ c.rises.ensures c.if-not-rises.false) c.lay.ensures
