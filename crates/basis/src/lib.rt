@@ -27,6 +27,7 @@ pub fn mark(s: Step, entries: &mut [bool])
 {
     mark_walk(&s.there, s.first, entries);
     mark_walk(&s.back, s.second, entries);
+    // A number: the record is lent as anybody states it.
     if s.kind == 3 {
         entries[s.a as usize] = true;
     }
