@@ -28,8 +28,8 @@ pub record Asked (n : ℕ) (old : List ℕ) (a b g : ℕ) : Type 0 where
   pub table : Table n (cell old)
 
 pub asked : {n : ℕ} {d : List ℕ} {a b g : ℕ} →
-    ((length d ≡ cells) × (n ≤ stride) × (a < n) × (b < n)) × (((g < none) × Within step g) × Table n (cell d)) → Asked n d a b g
-asked p = record { size = p.0; bound = p.1.0; table = p.1.1 }
+    record { d_len : (length d ≡ cells) × (n ≤ stride) × (a < n) × (b < n); g_lt_none : (g < none) × Within step g; table : Table n (cell d) } → Asked n d a b g
+asked p = record { size = p.d_len; bound = p.g_lt_none; table = p.table }
 
 module _ (n : ℕ) (old : List ℕ) (a b g : ℕ) (A : Asked n old a b g) where
   T : Table n (cell old)

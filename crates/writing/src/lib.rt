@@ -17,8 +17,8 @@ pub enum Verdict {
     Clashes = 1,
 }
 
-// Writes the head of a record of size bytes: verdict is a Verdict's number, count is D or k. It is written as one number: the
-// length, 1, the verdict, the count and 0 are its digits.
+// Writes the head of a record of size bytes: verdict is a Verdict's number, count is D or k. It is written as one number: the length, 1,
+// the verdict, the count and 0 are its digits. The verdict is a byte, since what a head with any other byte is, is promised too.
 pub fn head(room: &mut [u8], size: usize, verdict: u8, count: u64)
     requires { (head_length ≤ length room.old) × (size < 65536) × (count < 65536) }
     ensures { Headed room.old room.new size verdict count }

@@ -20,7 +20,7 @@ loop-i-init c = none_yet _ _ _ _ _
 pub sum-via-requires : goal.sum-via-requires
 sum-via-requires c =
     rw c.gap_at.ensures
-    (first c.args.n _ _ _ _ (asked (c.requires.d_len, (c.requires.g_lt_none, c.requires.table))) c.loop-i.d c.loop-i.i c.loop-i-test.true c.loop-i.invariant)
+    (first c.args.n _ _ _ _ (asked c.requires) c.loop-i.d c.loop-i.i c.loop-i-test.true c.loop-i.invariant)
 
 pub relax_row-requires : goal.relax_row-requires
 relax_row-requires c =
@@ -30,15 +30,15 @@ relax_row-requires c =
     let row = c.row_of-row in
     let i< : c.loop-i.i < c.args.n = c.loop-i-test.true in record {
       d_len = (c.loop-i.auto.d ∙ size.0, within i< size.1, within size.3 size.1, past.ensures.0, up_to past.ensures.1 size.1);
-      by_index = λ j p q. second _ _ _ _ _ (asked (c.requires.d_len, (c.requires.g_lt_none, c.requires.table))) c.loop-i.d c.loop-i.i i< c.loop-i.invariant row.result _ via row.ensures j (within q past.ensures.1);
-      j_bound = λ h j p q. skipped _ _ _ _ _ (asked (c.requires.d_len, (c.requires.g_lt_none, c.requires.table))) c.loop-i.d c.loop-i.i i< c.loop-i.invariant row.result _ via row.ensures h j (within q past.ensures.1);
+      by_index = λ j p q. second _ _ _ _ _ (asked c.requires) c.loop-i.d c.loop-i.i i< c.loop-i.invariant row.result _ via row.ensures j (within q past.ensures.1);
+      j_bound = λ h j p q. skipped _ _ _ _ _ (asked c.requires) c.loop-i.d c.loop-i.i i< c.loop-i.invariant row.result _ via row.ensures h j (within q past.ensures.1);
     }
 
 pub loop-i-preserved : goal.loop-i-preserved
 loop-i-preserved c =
     let via = c.sum-via.ensures.code ∙ ap (λ (x : ℕ). sum_of x c.args.g.0) c.gap_at.ensures in
     let row = c.row_of-row in
-    more _ _ _ _ _ (asked (c.requires.d_len, (c.requires.g_lt_none, c.requires.table))) c.loop-i.d c.loop-i.i c.loop-i-test.true c.loop-i.invariant row.result _ via row.ensures _ _ c.past_there-to.ensures.1 c.first_there-from.ensures.1 c.past_there-to.ensures.2 _
+    more _ _ _ _ _ (asked c.requires) c.loop-i.d c.loop-i.i c.loop-i-test.true c.loop-i.invariant row.result _ via row.ensures _ _ c.past_there-to.ensures.1 c.first_there-from.ensures.1 c.past_there-to.ensures.2 _
     c.relax_row.ensures
 
 pub returns : goal.returns
