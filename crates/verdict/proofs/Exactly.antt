@@ -6,8 +6,8 @@ use mathlib.Core.Logic.{◌↔◌}
 use Rattle.order.specs.First.{Set}
 use Rattle.sheet.specs.Sheet.{Sheet}
 use Rattle.meaning.specs.Meaning.{Holds as SheetHolds, Clashes as SheetClashes}
-use Rattle.verdict.specs.declared.Verdict.{Verdict}
-use Rattle.verdict.specs.declared.Verdict.TheVariants.{Holds, Clashes}
+use Rattle.writing.specs.declared.Verdict.{Verdict}
+use Rattle.writing.specs.declared.Verdict.TheVariants.{Holds, Clashes}
 use Rattle.verdict.specs.Judged.{number_of, Judged}
 
 module _ (s : Sheet) (S : Set) where

@@ -20,7 +20,7 @@ use Rattle.settled.proofs.Meet.{settled-meets}
 use Rattle.steps.specs.Step.{Met, Stepped}
 use Rattle.steps.specs.True.{TermsHeld, TermsPut}
 use Rattle.steps.proofs.Steps.{Leaves, changed, followed, term-tighter}
-use Rattle.verdict.specs.declared.Verdict.TheVariants.{Clashes}
+use Rattle.writing.specs.declared.Verdict.TheVariants.{Clashes}
 use Rattle.verdict.specs.Judged.{verdict_of, Judged}
 use Rattle.verdict.specs.Entered.{EnteredHeld, EnteredPut}
 use Rattle.verdict.proofs.Ground.{Model, no-model}

@@ -5,8 +5,8 @@ use Rattle.order.specs.First.{Set}
 use Rattle.sheet.specs.Sheet.{Sheet}
 use Rattle.meaning.specs.Meaning.{Holds as SheetHolds, Clashes as SheetClashes}
 use Rattle.settled.specs.Settled.{Settled}
-use Rattle.verdict.specs.declared.Verdict.{Verdict}
-use Rattle.verdict.specs.declared.Verdict.TheVariants.{Holds, Clashes}
+use Rattle.writing.specs.declared.Verdict.{Verdict}
+use Rattle.writing.specs.declared.Verdict.TheVariants.{Holds, Clashes}
 
 -- document 01's number of a verdict
 abbrev pub number_of : Verdict → ℕ

@@ -13,11 +13,7 @@ ghost use Rattle.settled.specs.Settled.{points};
 ghost use Rattle.verdict.specs.Judged.{Judged};
 ghost use Rattle.verdict.specs.Entered.{EnteredPut};
 
-#[derive(Clone, Copy, PartialEq, Eq, Debug)]
-pub enum Verdict {
-    Holds,
-    Clashes,
-}
+pub use writing::Verdict;
 
 // Judges the entries that the set marks. The table is the caller's to lend, and is settled where they hold.
 pub fn on(sheet: &[u8], set: &[bool], d: &mut [u32]) -> Verdict
