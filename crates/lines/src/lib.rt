@@ -16,7 +16,7 @@ use slips::{Found, Slip};
 // Brackets go no deeper than this.
 pub const DEPTH: usize = 16;
 
-// The relation at i, behind the place where it ends.
+// The relation at i: the place behind it, and which it is.
 #[tactic(auto, unfolding(crate::specs::Model::relation_at))]
 fn relation(s: &[u8], i: usize) -> Result<(usize, Relation), Slip>
     ensures { relation_read result ≡ relation_at s.now i }

@@ -7,14 +7,8 @@ use Rattle.transcript.proofs.transcribe.Goals as goal
 pub returns-then-room-lt-ROOM : goal.returns-then-room-lt-ROOM
 returns-then-room-lt-ROOM c = too_short (omega arith)
 
-pub sheet-requires : goal.sheet-requires
-sheet-requires c =
-    let whole = c.in_ok-l.ensures in
-    let table = whole.holds.table in
-    (table.cells, omega (arith, table.count, table.few), whole.few, omega arith)
+pub returns-in_err-l : goal.returns-in_err-l
+returns-in_err-l c = slipped-exit _ _ c.from_residual.ensures.1 (omega arith) c.in_err-l.ensures
 
 pub returns : goal.returns
 returns c = transcribed c.in_ok-l.ensures (omega arith) c.sheet.ensures
-
-pub returns-in_err-l : goal.returns-in_err-l
-returns-in_err-l c = slipped-exit _ _ c.from_residual.ensures.1 (omega arith) c.in_err-l.ensures
