@@ -13,7 +13,7 @@ use Rattle.sheet.proofs.Below.{arguments-wider}
 use Rattle.keys.specs.Ready.{Near}
 use Rattle.keys.specs.Keys.{first_key, second_key, SymbolFits}
 use Rattle.shelves.specs.Rows.{key_count, stored, RowAgrees, shelf_count, Shelved}
-use Rattle.shelves.proofs.Rows.{first-kept, second-kept, first-new, second-new, shelved-none}
+use Rattle.shelves.proofs.Rows.{first-kept, second-kept, first-new, second-new}
 use Rattle.keys.proofs.Keys.{level-same, same_keys, same-input}
 use Rattle.meets.specs.Parts.{Functional}
 
@@ -41,28 +41,18 @@ pub input : {s : Sheet} {v : List ℕ} {i a b t : ℕ} {x : Term} → t ≡ coun
     → (a ≡ first_key v t x) × (b ≡ second_key v t x) × SymbolFits x → Input s v i a b
 input p q told = let (first, second, symbol) = rw (p, q) at told in record { first = first; second = second; symbol = symbol }
 
-module _ {s : Sheet} {v keys : List ℕ} {shelves : List Bool} where
-  pub kept-none : length keys ≡ key_count → length shelves ≡ shelf_count → Kept s v keys shelves 0
-  kept-none p q =
-      record {
-        sized = p;
-        shelf = q;
-        keyed = record { first = λ j l. absurd (omega arith); second = λ j l. absurd (omega arith); symbols = λ j l. absurd (omega arith) };
-        shelved = shelved-none;
-      }
+module _ {s : Sheet} {v keys : List ℕ} {shelves : List Bool} {i a b : ℕ} {new : List ℕ} (K : Kept s v keys shelves i) (i< : i < max_terms) (I : Input s v i a b) (e : new ≡ stored keys i a b) where
+  pub keyed-more : Keyed s v new (i + 1)
+  keyed-more =
+      rw e
+      (record {
+        first = below_more _ i (λ j l. first-kept keys a b i< j l ∙ K.keyed.first j l) (first-new keys a b i< K.sized ∙ I.first);
+        second = below_more _ i (λ j l. second-kept keys a b i< j l ∙ K.keyed.second j l) (second-new keys a b i< K.sized ∙ I.second);
+        symbols = below_more _ i K.keyed.symbols I.symbol;
+      })
 
-  module _ {i a b : ℕ} {new : List ℕ} (K : Kept s v keys shelves i) (i< : i < max_terms) (I : Input s v i a b) (e : new ≡ stored keys i a b) where
-    pub keyed-more : Keyed s v new (i + 1)
-    keyed-more =
-        rw e
-        (record {
-          first = below_more _ i (λ j l. first-kept keys a b i< j l ∙ K.keyed.first j l) (first-new keys a b i< K.sized ∙ I.first);
-          second = below_more _ i (λ j l. second-kept keys a b i< j l ∙ K.keyed.second j l) (second-new keys a b i< K.sized ∙ I.second);
-          symbols = below_more _ i K.keyed.symbols I.symbol;
-        })
-
-    pub kept_more : {after : List Bool} → (length after ≡ shelf_count) × Shelved new after (i + 1) → Kept s v new after (i + 1)
-    kept_more put = record { sized = ap length e ∙ simp length-set K.sized; shelf = put.0; keyed = keyed-more; shelved = put.1 }
+  pub kept_more : {after : List Bool} → (length after ≡ shelf_count) × Shelved new after (i + 1) → Kept s v new after (i + 1)
+  kept_more put = record { sized = ap length e ∙ simp length-set K.sized; shelf = put.0; keyed = keyed-more; shelved = put.1 }
 
 module _ {s : Sheet} {v keys : List ℕ} {i a b : ℕ} (K : Keyed s v keys (i + 1)) (I : Input s v i a b) where
   pub row-functional : RowAgrees keys v a b (get_or v i 0) i → Functional s v i

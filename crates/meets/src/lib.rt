@@ -35,9 +35,8 @@ fn limits(v: &[u64], t: usize) -> bool
 {
     let zero = v[t];
     let mut near = true;
-    for i in 0..t {
-        let x = v[i];
-        near = near & (x <= zero + LIMIT) & (zero <= x + LIMIT);
+    for &x in &v[..t] {
+        near &= (x <= zero + LIMIT) & (zero <= x + LIMIT);
     }
     near
 }

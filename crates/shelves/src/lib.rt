@@ -56,8 +56,7 @@ fn compare(keys: &[u64; KEYS], v: &[u64], first: u64, second: u64, level: u64, k
 {
     let mut alike = true;
     for j in 0..k {
-        alike = alike
-            & ((keys[j] != first) | (keys[sheet::MAX_TERMS + j] != second) | (v[j] == level));
+        alike &= (keys[j] != first) | (keys[sheet::MAX_TERMS + j] != second) | (v[j] == level);
     }
     alike
 }

@@ -2,18 +2,10 @@
 -- Assumes nothing.
 use mathlib.Core.Path.{sym, ◌∙◌}
 use mathlib.Core.Bool.{true≢false}
-use native.Mathlib.Omega.{arith}
 use Rattle.sheet.specs.Decode.{sheet_of}
-use Rattle.sheet.proofs.Below.{entry-below}
 use Rattle.meets.proofs.Counted.{entry-told, entries-more}
 use Rattle.meets.proofs.entries.Goals as goal
 use Rattle.meets.proofs.entries.Goals.{else-set-e-via-then-set-e+else-not-entry_true, else-set-e-via-else-set-e}
-
-pub entry_true-requires : goal.entry_true-requires
-entry_true-requires c =
-    let pre = c.requires in
-    let below = entry-below {i = c.loop-e.e} pre.sized.1 (omega arith) c.entry_at.ensures in
-    (pre.t_value.2, pre.t_value.1, omega (arith, pre.t_value.0, below), omega (arith, pre.t_value.0, below))
 
 pub loop-e-preserved : goal.loop-e-preserved
 loop-e-preserved c =

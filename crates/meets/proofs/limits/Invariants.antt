@@ -6,5 +6,5 @@ use Rattle.meaning.specs.Decides.{Decides}
 use Rattle.meets.proofs.Counted.{Limited}
 use Rattle.meets.proofs.limits.Given as goal
 
-abbrev pub invariant-loop-i : goal.invariant-loop-i
-invariant-loop-i l = (l.zero ≡ get_or l.v l.t 0) × Decides (Limited l.v l.t l.i) l.near
+abbrev pub invariant-loop-x : goal.invariant-loop-x
+invariant-loop-x l = (l.zero ≡ get_or l.v l.t 0) × Decides (Limited l.v l.t l.x-index) l.near
