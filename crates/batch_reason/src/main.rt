@@ -65,7 +65,7 @@ fn answer_sheet(
         output.write_all(&bytes[..end])?;
         return Ok(true);
     }
-    bytes[5] = untouched(&bytes[5..end]) as u8;
+    bytes[5] = u8::from(untouched(&bytes[5..end]));
     output.write_all(&bytes[..6])?;
     Ok(true)
 }
@@ -85,12 +85,5 @@ fn reply(sheet: &[u8], size: usize, bytes: &mut [u8])
 fn untouched(room: &[u8]) -> bool
     ensures { result ≡ true ↔ ((i : ℕ) → i < length room.now → get_or room.now i 0 ≡ 0xAA) }
 {
-    let mut i = 0;
-    while i < room.len() {
-        if room[i] != 0xAA {
-            return false;
-        }
-        i += 1;
-    }
-    true
+    room.iter().all(|b| *b == 0xAA)
 }
