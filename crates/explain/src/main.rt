@@ -8,7 +8,6 @@ mod records;
 mod words;
 
 use crate::records::byte;
-use crate::words::{say, say_number};
 use reason::Reply;
 use refusal::Refusal;
 use sheet::EntryNumber;
@@ -22,17 +21,13 @@ fn main(rt: HostRuntime) -> io::Result<()> {
         Reply::Written(_) => explain(&rt, &bytes[..lent], &room),
         // the room has the size that is always enough
         Reply::Short => Ok(()),
-        Reply::Holds => say(&rt, b"holds\n"),
+        Reply::Holds => println!(rt; "holds"),
         Reply::Refused(why) => say_refused(&rt, why),
     }
 }
 
 fn say_refused(rt: &impl Print, why: Refusal) -> io::Result<()> {
-    say(rt, b"refused ")?;
-    say_number(rt, why.number() as u64)?;
-    say(rt, b" at ")?;
-    say_number(rt, why.place() as u64)?;
-    say(rt, b"\n")
+    println!(rt; "refused {} at {}", why.number(), why.place())
 }
 
 // The list, its entries in words, the terms that aren't written out where they stand, and the steps.
@@ -47,12 +42,11 @@ fn explain(rt: &impl Print, sheet: &[u8], record: &[u8]) -> io::Result<()> {
 
 // Each entry's number after a space.
 fn say_list(rt: &impl Print, record: &[u8], k: u16) -> io::Result<()> {
-    say(rt, b"clashes")?;
+    print!(rt; "clashes")?;
     for x in 0..k {
-        say(rt, b" ")?;
-        say_number(rt, byte(record, paper::HEAD + x as usize) as u64)?;
+        print!(rt; " {}", listed(record, x).0)?;
     }
-    say(rt, b"\n")
+    println!(rt)
 }
 
 fn say_entries(
@@ -63,12 +57,12 @@ fn say_entries(
     k: u16,
 ) -> io::Result<()> {
     for x in 0..k {
-        words::say_entry(
-            rt,
-            sheet,
-            sizes,
-            EntryNumber(byte(record, paper::HEAD + x as usize)),
-        )?;
+        words::say_entry(rt, sheet, sizes, listed(record, x))?;
     }
     Ok(())
+}
+
+// The entry at place x of the list.
+fn listed(record: &[u8], x: u16) -> EntryNumber {
+    EntryNumber(byte(record, paper::HEAD + usize::from(x)))
 }

@@ -3,9 +3,10 @@ ghost use Rattle.std.specs.Prelude.{◌≡◌, ◌+◌, ◌%◌, ◌^◌, ◌||�
 
 use crate::records;
 use crate::records::byte;
-use crate::words::{gap_of, say, say_entry, say_gap, say_number, say_point};
+use crate::words::{Gap, gap_of, say_entry, say_point};
+use paper::StepKind;
 use sheet::{EntryNumber, Relation, Term, TermNumber};
-use std::io;
+use std::{fmt, io};
 
 // The most steps of a reason, and the bytes of one without its bounds.
 const MOST: usize = sheet::MAX_TERMS + 1;
@@ -21,6 +22,34 @@ struct Leg {
     strict: bool,
 }
 
+// What a bound is of. Each has two numbers of kinds, the even one for the bound and the odd one for it backwards.
+#[derive(Clone, Copy)]
+enum Source {
+    Entry,
+    Term,
+    Step,
+}
+
+impl From<u8> for Source {
+    fn from(kind: u8) -> Source {
+        match kind / 2 {
+            0 => Source::Entry,
+            1 => Source::Term,
+            _ => Source::Step,
+        }
+    }
+}
+
+impl fmt::Display for Source {
+    fn fmt<W: fmt::Write>(&self, f: &mut fmt::Formatter<W>) -> fmt::Result {
+        f.write_str(match self {
+            Source::Entry => "entry",
+            Source::Term => "term",
+            Source::Step => "step",
+        })
+    }
+}
+
 // The steps of a record, which begin behind its list of k entries.
 pub fn say_all(
     rt: &impl Print,
@@ -29,17 +58,13 @@ pub fn say_all(
     record: &[u8],
     k: u16,
 ) -> io::Result<()> {
-    let count = records::pair(record, 8) as usize;
+    let count = usize::from(records::pair(record, 8));
     let mut starts = [0u32; 256];
-    let mut at = paper::HEAD as u32 + k as u32;
-    let mut n = 0;
-    while n < MOST && n < count {
+    let mut at = paper::HEAD as u32 + u32::from(k);
+    for n in 0..count.min(MOST) {
         starts[n] = at;
-        say(rt, b"step ")?;
-        say_number(rt, n as u64)?;
-        say(rt, b": ")?;
-        at += say_step(rt, sheet, sizes, record, &starts, at)? as u32;
-        n += 1;
+        print!(rt; "step {n}: ")?;
+        at += u32::from(say_step(rt, sheet, sizes, record, &starts, at)?);
     }
     Ok(())
 }
@@ -58,28 +83,29 @@ fn say_step(
     let b = byte(record, first + 2);
     let there = byte(record, first + 11);
     let back = byte(record, first + 12);
-    let second = HEAD + 2 * there as u16;
-    match byte(record, first) {
-        0 => {
+    let second = HEAD + 2 * u16::from(there);
+    match StepKind::try_from(byte(record, first)) {
+        Ok(StepKind::ByWalks) => {
             say_tied(rt, sheet, sizes, a, b, records::step_c(record, at))?;
             say_walk(rt, sheet, sizes, record, starts, a, at, HEAD, there)?;
             say_walk(rt, sheet, sizes, record, starts, b, at, second, back)?;
         }
-        1 => {
+        Ok(StepKind::ByFunctions) => {
             say_tied(rt, sheet, sizes, a, b, 0)?;
             say_arguments(rt, sheet, sizes, a, b)?;
         }
-        2 => {
-            say(rt, b"a walk that closes\n")?;
+        Ok(StepKind::ClosingWalk) => {
+            println!(rt; "a walk that closes")?;
             say_walk(rt, sheet, sizes, record, starts, a, at, HEAD, there)?;
-            say(rt, b"  which can't be\n")?;
+            println!(rt; "  which can't be")?;
         }
-        _ => {
+        // no step of a record has another number
+        Ok(StepKind::ClosingEntry) | Err(_) => {
             say_entry(rt, sheet, sizes, EntryNumber(a))?;
-            say(rt, b"  which can't be: by the ties they are equal\n")?;
+            println!(rt; "  which can't be: by the ties they are equal")?;
         }
     }
-    Ok(second + 2 * back as u16)
+    Ok(second + 2 * u16::from(back))
 }
 
 fn say_tied(
@@ -91,10 +117,9 @@ fn say_tied(
     c: u64,
 ) -> io::Result<()> {
     say_point(rt, sheet, sizes, a)?;
-    say(rt, b" = ")?;
+    print!(rt; " = ")?;
     say_point(rt, sheet, sizes, b)?;
-    say_gap(rt, c)?;
-    say(rt, b"\n")
+    println!(rt; "{}", Gap(c))
 }
 
 // That the arguments of two applications are tied.
@@ -118,10 +143,9 @@ fn say_first(
     a: TermNumber,
     g: Term,
 ) -> io::Result<()> {
-    say(rt, b"  since ")?;
+    print!(rt; "  since ")?;
     match g {
-        Term::Apply(_, c) => say_tied(rt, sheet, sizes, a.0, c.0, 0),
-        Term::Apply2(_, c, _) => say_tied(rt, sheet, sizes, a.0, c.0, 0),
+        Term::Apply(_, c) | Term::Apply2(_, c, _) => say_tied(rt, sheet, sizes, a.0, c.0, 0),
         _ => Ok(()),
     }
 }
@@ -133,7 +157,7 @@ fn say_second(
     b: TermNumber,
     g: Term,
 ) -> io::Result<()> {
-    say(rt, b"  and ")?;
+    print!(rt; "  and ")?;
     match g {
         Term::Apply2(_, _, d) => say_tied(rt, sheet, sizes, b.0, d.0, 0),
         _ => Ok(()),
@@ -152,7 +176,7 @@ fn say_walk(
     skip: u16,
     count: u8,
 ) -> io::Result<()> {
-    let first = at as usize + skip as usize;
+    let first = at as usize + usize::from(skip);
     let mut sum = Leg {
         from: a,
         to: a,
@@ -160,7 +184,7 @@ fn say_walk(
         strict: false,
     };
     for x in 0..count {
-        let bound = first + 2 * x as usize;
+        let bound = first + 2 * usize::from(x);
         let leg = say_bound(
             rt,
             sheet,
@@ -172,9 +196,9 @@ fn say_walk(
         )?;
         sum = behind(sum, leg);
     }
-    say(rt, b"  so ")?;
+    print!(rt; "  so ")?;
     say_leg(rt, sheet, sizes, sum)?;
-    say(rt, b"\n")
+    println!(rt)
 }
 
 fn behind(sum: Leg, leg: Leg) -> Leg
@@ -183,7 +207,7 @@ fn behind(sum: Leg, leg: Leg) -> Leg
     Leg {
         from: sum.from,
         to: leg.to,
-        c: std::num::wrapping_add_u64(sum.c, leg.c),
+        c: sum.c.wrapping_add(leg.c),
         strict: sum.strict | leg.strict,
     }
 }
@@ -198,40 +222,27 @@ fn say_bound(
     n: u8,
 ) -> io::Result<Leg> {
     let leg = leg_of(sheet, record, starts, kind, n);
-    say(rt, b"  ")?;
+    print!(rt; "  ")?;
     say_leg(rt, sheet, sizes, leg)?;
-    match kind / 2 {
-        0 => say(rt, b" by entry "),
-        1 => say(rt, b" by term "),
-        _ => say(rt, b" by step "),
-    }?;
-    say_number(rt, n as u64)?;
-    say(rt, b"\n")?;
+    println!(rt; " by {} {n}", Source::from(kind))?;
     Ok(leg)
 }
 
 fn say_leg(rt: &impl Print, sheet: &[u8], sizes: &[u8; 256], leg: Leg) -> io::Result<()> {
     say_point(rt, sheet, sizes, leg.from)?;
-    if leg.strict {
-        say(rt, b" < ")?;
-    } else {
-        say(rt, b" <= ")?;
-    }
+    print!(rt; "{}", if leg.strict { " < " } else { " <= " })?;
     say_point(rt, sheet, sizes, leg.to)?;
-    say_gap(rt, leg.c)
+    print!(rt; "{}", Gap(leg.c))
 }
 
 // A bound by its kind and number, the odd kinds backwards.
 fn leg_of(sheet: &[u8], record: &[u8], starts: &[u32; 256], kind: u8, n: u8) -> Leg {
-    let leg = match kind / 2 {
-        0 => entry_leg(records::entry(sheet, EntryNumber(n))),
-        1 => term_leg(sheet, TermNumber(n)),
-        _ => tie_leg(record, starts[n as usize]),
+    let leg = match Source::from(kind) {
+        Source::Entry => entry_leg(records::entry(sheet, EntryNumber(n))),
+        Source::Term => term_leg(sheet, TermNumber(n)),
+        Source::Step => tie_leg(record, starts[usize::from(n)]),
     };
-    if kind % 2 == 0 {
-        return leg;
-    }
-    turned(leg)
+    if kind % 2 == 0 { leg } else { turned(leg) }
 }
 
 fn turned(leg: Leg) -> Leg
@@ -240,7 +251,7 @@ fn turned(leg: Leg) -> Leg
     Leg {
         from: leg.to,
         to: leg.from,
-        c: std::num::wrapping_sub_u64(0, leg.c),
+        c: leg.c.wrapping_neg(),
         strict: leg.strict,
     }
 }
@@ -248,16 +259,11 @@ fn turned(leg: Leg) -> Leg
 fn entry_leg(entry: sheet::Entry) -> Leg
     ensures { (result.from ≡ entry.a.0) × (result.to ≡ entry.b.0) × ((result.c + 32768) % 2 ^ 64 ≡ entry.c.0) }
 {
-    let relation = entry.relation;
-    let strict = match relation {
-        Relation::Less => true,
-        _ => false,
-    };
     Leg {
         from: entry.a.0,
         to: entry.b.0,
         c: gap_of(entry.c),
-        strict: strict,
+        strict: entry.relation == Relation::Less,
     }
 }
 

@@ -9,7 +9,7 @@ use sheet::{Entry, EntryNumber, Fields, Term, TermNumber};
 pub fn byte(bytes: &[u8], at: usize) -> u8
     ensures { (at < length bytes.now → result ≡ slice_index bytes.now at) × (length bytes.now ≤ at → result ≡ 0) }
 {
-    if at < bytes.len() { bytes[at] } else { 0 }
+    bytes.get(at).copied().unwrap_or(0)
 }
 
 // A number of two bytes.
@@ -17,7 +17,7 @@ pub fn pair(bytes: &[u8], at: u32) -> u16
     ensures { at + 1 < length bytes.now → result ≡ slice_index bytes.now at * 256 + slice_index bytes.now (at + 1) }
 {
     let first = at as usize;
-    byte(bytes, first) as u16 * 256 + byte(bytes, first + 1) as u16
+    u16::from(byte(bytes, first)) * 256 + u16::from(byte(bytes, first + 1))
 }
 
 // c of the step that begins at `at`.
@@ -39,11 +39,14 @@ pub fn count_terms(sheet: &[u8]) -> u8
 }
 
 pub fn term(sheet: &[u8], i: TermNumber) -> Term {
-    Term::from(fields(sheet, 6 + 6 * i.0 as u32))
+    Term::from(fields(sheet, 6 + 6 * u32::from(i.0)))
 }
 
 pub fn entry(sheet: &[u8], e: EntryNumber) -> Entry {
-    Entry::from(fields(sheet, 6 + 6 * count_terms(sheet) as u32 + 6 * e.0 as u32))
+    Entry::from(fields(
+        sheet,
+        6 + 6 * u32::from(count_terms(sheet)) + 6 * u32::from(e.0),
+    ))
 }
 
 fn fields(sheet: &[u8], at: u32) -> Fields

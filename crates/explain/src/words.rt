@@ -1,62 +1,47 @@
 // Terms and entries in words: as a text has them, an unknown by its term's number.
 ghost use Rattle.std.specs.Prelude.{◌≡◌, ◌+◌, ◌%◌, ◌^◌, min};
+ghost use lib.IntN.{sub_ℕ};
 
 use crate::records;
 use sheet::{Biased, EntryNumber, Relation, Term, TermNumber};
-use std::io;
+use std::{fmt, io};
 
 // The most parts of a term that is written out wherever it stands. A larger one is t and its number there, and is written out once, since a
 // term can have more parts than there is paper for.
 const MOST: u8 = 32;
-
-pub fn say(rt: &impl Print, words: &[u8]) -> io::Result<()> {
-    rt.write_all(words)
-}
-
-pub fn say_number(rt: &impl Print, n: u64) -> io::Result<()> {
-    rt.print(n)
-}
 
 // How many parts each term has, up to one more than the most.
 pub fn sizes(sheet: &[u8]) -> [u8; 256] {
     let t = records::count_terms(sheet);
     let mut sizes = [0u8; 256];
     for i in 0..t {
-        sizes[i as usize] = parts(records::term(sheet, TermNumber(i)), &sizes);
+        sizes[usize::from(i)] = parts(records::term(sheet, TermNumber(i)), &sizes);
     }
     sizes
 }
 
 fn parts(term: Term, sizes: &[u8; 256]) -> u8 {
     match term {
-        Term::Unknown => 1,
-        Term::Number(_) => 1,
-        Term::Shift(a, _) => together(sizes[a.0 as usize], 0),
-        Term::Apply(_, a) => together(sizes[a.0 as usize], 0),
-        Term::Apply2(_, a, b) => together(sizes[a.0 as usize], sizes[b.0 as usize]),
+        Term::Unknown | Term::Number(_) => 1,
+        Term::Shift(a, _) | Term::Apply(_, a) => together(sizes[usize::from(a.0)], 0),
+        Term::Apply2(_, a, b) => together(sizes[usize::from(a.0)], sizes[usize::from(b.0)]),
     }
 }
 
 fn together(a: u8, b: u8) -> u8
     ensures { result ≡ min (a + b) 32 + 1 }
 {
-    let sum = a as u16 + b as u16;
-    if sum < MOST as u16 {
-        sum as u8 + 1
-    } else {
-        MOST + 1
-    }
+    a.saturating_add(b).min(MOST) + 1
 }
 
 // The terms that aren't written out where they stand.
 pub fn say_large(rt: &impl Print, sheet: &[u8], sizes: &[u8; 256]) -> io::Result<()> {
     let t = records::count_terms(sheet);
     for i in 0..t {
-        if MOST < sizes[i as usize] {
-            say_named(rt, b"t", i)?;
-            say(rt, b" is ")?;
+        if MOST < sizes[usize::from(i)] {
+            print!(rt; "t{i} is ")?;
             say_whole(rt, sheet, sizes, TermNumber(i), MOST)?;
-            say(rt, b"\n")?;
+            println!(rt)?;
         }
     }
     Ok(())
@@ -67,7 +52,7 @@ pub fn say_point(rt: &impl Print, sheet: &[u8], sizes: &[u8; 256], i: u8) -> io:
     if i < records::count_terms(sheet) {
         say_term(rt, sheet, sizes, TermNumber(i), MOST)
     } else {
-        say(rt, b"0")
+        print!(rt; "0")
     }
 }
 
@@ -80,10 +65,10 @@ fn say_term(
     i: TermNumber,
     deep: u8,
 ) -> io::Result<()> {
-    if 0 < deep && sizes[i.0 as usize] <= MOST {
+    if 0 < deep && sizes[usize::from(i.0)] <= MOST {
         say_whole(rt, sheet, sizes, i, deep - 1)
     } else {
-        say_named(rt, b"t", i.0)
+        print!(rt; "t{}", i.0)
     }
 }
 
@@ -97,32 +82,25 @@ fn say_whole(
     deep: u8,
 ) -> io::Result<()> {
     match records::term(sheet, i) {
-        Term::Unknown => say_named(rt, b"x", i.0),
-        Term::Number(c) => say_c(rt, c),
+        Term::Unknown => print!(rt; "x{}", i.0),
+        Term::Number(c) => print!(rt; "{}", typed(c)),
         Term::Shift(a, c) => {
             say_term(rt, sheet, sizes, a, deep)?;
-            say_shift(rt, c)
+            print!(rt; "{:+}", typed(c))
         }
         Term::Apply(f, a) => {
-            say_named(rt, b"f", f.0)?;
-            say(rt, b"(")?;
+            print!(rt; "f{}(", f.0)?;
             say_term(rt, sheet, sizes, a, deep)?;
-            say(rt, b")")
+            print!(rt; ")")
         }
         Term::Apply2(f, a, b) => {
-            say_named(rt, b"f", f.0)?;
-            say(rt, b"(")?;
+            print!(rt; "f{}(", f.0)?;
             say_term(rt, sheet, sizes, a, deep)?;
-            say(rt, b",")?;
+            print!(rt; ",")?;
             say_term(rt, sheet, sizes, b, deep)?;
-            say(rt, b")")
+            print!(rt; ")")
         }
     }
-}
-
-fn say_named(rt: &impl Print, letter: &[u8], n: u8) -> io::Result<()> {
-    say(rt, letter)?;
-    say_number(rt, n as u64)
 }
 
 // An entry by its number and in words.
@@ -133,59 +111,46 @@ pub fn say_entry(
     e: EntryNumber,
 ) -> io::Result<()> {
     let entry = records::entry(sheet, e);
-    let relation = entry.relation;
-    say_named(rt, b"entry ", e.0)?;
-    say(rt, b": ")?;
+    print!(rt; "entry {}: ", e.0)?;
     say_point(rt, sheet, sizes, entry.a.0)?;
-    say_relation(rt, relation)?;
+    print!(rt; "{}", sign(entry.relation))?;
     say_point(rt, sheet, sizes, entry.b.0)?;
-    say_gap(rt, gap_of(entry.c))?;
-    say(rt, b"\n")
+    println!(rt; "{}", Gap(gap_of(entry.c)))
 }
 
-fn say_relation(rt: &impl Print, relation: Relation) -> io::Result<()> {
+fn sign(relation: Relation) -> &'static str {
     match relation {
-        Relation::Equal => say(rt, b"="),
-        Relation::Unequal => say(rt, b"!="),
-        Relation::AtMost => say(rt, b"<="),
-        Relation::Less => say(rt, b"<"),
+        Relation::Equal => "=",
+        Relation::Unequal => "!=",
+        Relation::AtMost => "<=",
+        Relation::Less => "<",
     }
 }
 
-// A number, and a shift, as they are typed.
-fn say_c(rt: &impl Print, c: Biased) -> io::Result<()> {
-    if c.0 < 32768 {
-        say(rt, b"-")?;
-        say_number(rt, (32768 - c.0) as u64)
-    } else {
-        say_number(rt, (c.0 - 32768) as u64)
-    }
-}
-
-fn say_shift(rt: &impl Print, c: Biased) -> io::Result<()> {
-    if 32768 <= c.0 {
-        say(rt, b"+")?;
-    }
-    say_c(rt, c)
+// c as it is typed: a number by itself, a shift with its sign.
+fn typed(c: Biased) -> i32
+    ensures { result ≡ sub_ℕ c.0 32768 }
+{
+    i32::from(c.0) - 32768
 }
 
 // c as a record has it, two's complement of eight bytes.
 pub fn gap_of(c: Biased) -> u64
     ensures { (result + 32768) % 2 ^ 64 ≡ c.0 }
 {
-    std::num::wrapping_sub_u64(c.0 as u64, 32768)
+    u64::from(c.0).wrapping_sub(32768)
 }
 
-// What is added, if anything is.
-pub fn say_gap(rt: &impl Print, c: u64) -> io::Result<()> {
-    if c == 0 {
-        return Ok(());
-    }
-    if c < 9223372036854775808 {
-        say(rt, b"+")?;
-        say_number(rt, c)
-    } else {
-        say(rt, b"-")?;
-        say_number(rt, std::num::wrapping_sub_u64(0, c))
+// What is added, two's complement of eight bytes: nothing is said of 0.
+#[derive(Clone, Copy)]
+pub struct Gap(pub u64);
+
+impl fmt::Display for Gap {
+    fn fmt<W: fmt::Write>(&self, f: &mut fmt::Formatter<W>) -> fmt::Result {
+        match self.0 {
+            0 => Ok(()),
+            c if c < 1 << 63 => write!(f, "+{c}"),
+            c => write!(f, "-{}", c.wrapping_neg()),
+        }
     }
 }

@@ -1,10 +1,7 @@
--- `explain::reasoning::say_all` is safe and ends: a step has less than 2 ^ 16 bytes, so where the next one begins fits.
+-- `explain::reasoning::say_all` is safe: a step has less than 2 ^ 16 bytes, so where the next one begins fits.
 -- Assumes nothing.
-use Rattle.std.proofs.Common.{◌+◌, ◌-◌, ◌*◌, ◌≤◌}
+use Rattle.std.proofs.Common.{◌+◌, ◌*◌, ◌≤◌}
 use Rattle.explain.proofs.reasoning.say_all.Given as goal
 
 abbrev pub invariant-loop-n : goal.invariant-loop-n
-invariant-loop-n g l = (l.n ≤ 129) × (l.at ≤ (l.n + 2) * 65535)
-
-abbrev pub decreases-loop-n : goal.decreases-loop-n
-decreases-loop-n g l = 129 - l.n
+invariant-loop-n g l = l.at ≤ (l.n-counter + 2) * 65535
