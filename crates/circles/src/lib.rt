@@ -33,7 +33,7 @@ pub fn loosen(m: &mut [usize; MEMORY], n: usize, base: usize) -> bool
     true
 }
 
-// From point i on until no bound lowered the point, or it is marked: with this walk's mark there is a circle. A point of it.
+// From point i on until no bound lowered the point, or it is marked: with this walk's mark there is a circle, and x is a point of it.
 // Marks of earlier looks are under the base.
 fn walk(m: &mut [usize; MEMORY], i: usize, base: usize) -> Option<usize>
     requires { (i < places) × (base < 2 ^ 32) }

@@ -1,4 +1,4 @@
--- `inputs::pass` meets its contract.
+-- `inputs::pass` meets its contract: the place behind the bounds stays within the memory.
 -- Assumes nothing.
 use Prim.Native.Nat.{◌≤◌}
 use mathlib.Core.Path.{◌≡◌}

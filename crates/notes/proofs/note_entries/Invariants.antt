@@ -1,4 +1,4 @@
--- `notes::note_entries` meets its contract: the place stays within the memory.
+-- `notes::note_entries` meets its contract: the place behind the bounds stays within the memory.
 -- Assumes nothing.
 use Prim.Native.Nat.{◌≤◌}
 use mathlib.Core.Path.{◌≡◌}

@@ -1,4 +1,4 @@
--- `search::settle` meets its contract: the turns run out.
+-- `search::settle` meets its contract: the place behind the bounds stays within the memory.
 -- Assumes nothing.
 use Prim.Native.Nat.{◌≤◌}
 use mathlib.Core.Path.{◌≡◌}
