@@ -102,8 +102,8 @@ fn relax(
     for e in 0..m {
         let total = via(tos, codes, best, h, e);
         let i = at + STRIDE + usize::from(froms[e]);
-        if total < best[i] {
-            best[i] = total;
+        if total < Gap(best[i]) {
+            best[i] = total.0;
             changed = true;
         }
     }
@@ -111,14 +111,14 @@ fn relax(
 }
 
 // The total of bound e with row h behind it.
-fn via(tos: &[u8], codes: &[u32], best: &[u32], h: usize, e: usize) -> u32
+fn via(tos: &[u8], codes: &[u32], best: &[u32], h: usize, e: usize) -> Gap
     requires e_in_bounds { (e < length tos.now) × (e < length codes.now) × (get_or tos.now e 0 < stride) }
     requires h_lt_stride { (h < stride) × (length best.now ≡ cells) }
     requires addable { Addable (get_or codes.now e 0) (cell best.now h (get_or tos.now e 0)) }
-    ensures { result ≡ sum_of (get_or codes.now e 0) (cell best.now h (get_or tos.now e 0)) }
+    ensures { result.0 ≡ sum_of (get_or codes.now e 0) (cell best.now h (get_or tos.now e 0)) }
 {
     let behind = best[h * STRIDE + usize::from(tos[e])];
-    Gap(codes[e]).sum(Gap(behind)).0
+    Gap(codes[e]).sum(Gap(behind))
 }
 
 // Reads a walk off from layer h down, and answers its number of bounds.
@@ -142,8 +142,8 @@ fn read(
     let mut i = a;
     let mut k = 0;
     for h in (0..last).rev() {
-        let total = best[h * STRIDE + STRIDE + i];
-        if total < best[h * STRIDE + i] {
+        let total = Gap(best[h * STRIDE + STRIDE + i]);
+        if total < Gap(best[h * STRIDE + i]) {
             let e = find(froms, tos, codes, m, n, best, h, i, total);
             out[k] = e as u16;
             k += 1;
@@ -163,13 +163,13 @@ fn find(
     best: &[u32],
     h: usize,
     i: usize,
-    total: u32,
+    total: Gap,
 ) -> usize
     requires sound { Sound n (bounds m froms.now tos.now codes.now) }
     requires h_lt_stride { (h < stride) × (n ≤ stride) × (length best.now ≡ cells) }
     requires by_index { (e : ℕ) → e < m → Addable (get_or codes.now e 0) (cell best.now h (get_or tos.now e 0)) }
-    requires over { Over (bounds m froms.now tos.now codes.now) m (cell best.now h) i total }
-    ensures { Chosen (bounds m froms.now tos.now codes.now) (cell best.now h) i total result }
+    requires over { Over (bounds m froms.now tos.now codes.now) m (cell best.now h) i total.0 }
+    ensures { Chosen (bounds m froms.now tos.now codes.now) (cell best.now h) i total.0 result }
 {
     for e in 0..m {
         if usize::from(froms[e]) == i && via(tos, codes, best, h, e) == total {

@@ -1,6 +1,6 @@
 -- `layers::read` meets its contract.
 -- Assumes nothing.
-use Rattle.std.proofs.Common.{◌≡◌, ◌+◌, ◌-◌, arith}
+use Rattle.std.proofs.Common.{◌≡◌, ◌+◌, ◌-◌, arith, rules}
 use Rattle.layers.proofs.Best.{addable-at}
 use Rattle.layers.proofs.Reading.{begin, above-is, stay, chosen, kept-or, on, done}
 use Rattle.layers.proofs.read.Goals as goal
@@ -19,10 +19,10 @@ find-e-requires-clause-over c =
     let R = c.loop-h.invariant in
     let above : c.loop-h.h ≡ c.loop-h.h - 1 + 1 = omega arith in
     chosen _ _ S _ _ _ _ _ _ _ _ _ above R (c.requires.layers.0.rows.next (c.loop-h.h - 1) (omega arith)) _ (above-is _ _ S _ _ _ _ _ _ _ _ _ above R)
-    c.if-total-best.true
+    (search rules)
 
-pub loop-h-preserved-then-total-best : goal.loop-h-preserved-then-total-best
-loop-h-preserved-then-total-best c =
+pub loop-h-preserved-then-lt : goal.loop-h-preserved-then-lt
+loop-h-preserved-then-lt c =
     let S = c.requires.sound in
     let L = c.requires.layers.0 in
     let R = c.loop-h.invariant in
@@ -39,7 +39,7 @@ loop-h-preserved c =
     let above : c.loop-h.h ≡ c.loop-h.h - 1 + 1 = omega arith in
     stay _ _ S _ _ _ _ _ _ _ _ _ above R
     (kept-or _ _ S _ _ _ _ _ _ _ _ _ above R (c.requires.layers.0.rows.next (c.loop-h.h - 1) (omega arith)) _ (above-is _ _ S _ _ _ _ _ _ _ _ _ above R)
-    c.if-total-best.false)
+    (search rules))
 
 pub returns : goal.returns
 returns c =
