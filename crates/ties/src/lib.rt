@@ -23,7 +23,7 @@ pub fn tied_at(d: &[u32], n: usize, a: usize, b: usize, c: Biased) -> bool
     requires a_lt_n { (a < n) × (b < n) }
     ensures { Decides (TiedAt (cell d.now) a b (biased_says c)) result }
 {
-    table::tied(d, a, b).0 == Gap::whole(c.0 as u32, 32768).0
+    table::tied(d, a, b) == Gap::whole(c.0 as u32, 32768)
 }
 
 // Whether no ≠ entry of the set is on terms tied at exactly its c.

@@ -7,4 +7,4 @@ use Rattle.ties.proofs.tied_at.Goals as goal
 pub returns : goal.returns
 returns c =
     let pre = c.requires in
-    tied-told _ _ _ pre.d_len.2 pre.a_lt_n (omega arith) c.tied.ensures c.whole.ensures.code
+    rw c.eq.ensures (tied-told _ _ _ pre.d_len.2 pre.a_lt_n (omega arith) c.tied.ensures c.whole.ensures.code)
