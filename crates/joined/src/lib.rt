@@ -40,6 +40,7 @@ fn same_input(d: &[u32], n: usize, t: Fields, u: Fields) -> bool
     requires arguments_below { ArgumentsBelow n (decode_term t) × ArgumentsBelow n (decode_term u) }
     ensures { Decides (Joined (cell d.now) (decode_term t) (decode_term u)) result }
 {
+    // By the records' own numbers, and not as terms: four comparisons of bytes, and no test jumps.
     let kind = t.kind;
     if (kind < 3) | (4 < kind) | (kind != u.kind) | (t.symbol != u.symbol) {
         return false;
