@@ -15,7 +15,7 @@ use Rattle.numeral.specs.Model.{number}
 use Rattle.met.specs.Model.{count_in, place_in, Told, entered}
 use Rattle.met.specs.Keys.{kind_one, symbol_one, a_one, names}
 use Rattle.terms.specs.Model.{Held, sent_back, valued, value_at, shifted_at, shifted, closed_at, second_at, first_at, list_at, applied_at, term_at, arguments, term}
-use Rattle.terms.proofs.Answered.{entered-held}
+use Rattle.terms.proofs.Answered.{entered_held}
 
 pub record Kept (m : List ℕ) (t : Told) : Type 0 where
   pub held : Held t.memory
@@ -29,7 +29,7 @@ sent h = record { held = h; same = refl }
 
 entered-kept : (m : List ℕ) (key e : ℕ) → Held m → Kept m (entered m key e)
 unfolding entered
-entered-kept m key e h = record { held = entered-held m key e h; same = go (ltb (place_in (take (count_in m) m) key) (count_in m)) (leb max_terms (count_in m)) }
+entered-kept m key e h = record { held = entered_held m key e h; same = go (ltb (place_in (take (count_in m) m) key) (count_in m)) (leb max_terms (count_in m)) }
   where
     told : Bool → Bool → Told
     told t u =

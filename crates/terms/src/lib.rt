@@ -27,6 +27,7 @@ pub const NAMES: usize = 281474976710656;
 const BACK: usize = 65535;
 
 // The number at i as a term: its key is the base and as many times the step, in two bytes.
+#[tactic(auto, using(crate::proofs::Answered::entered_held), unfolding(crate::specs::Model::value_at))]
 fn value(
     s: &[u8],
     i: usize,
@@ -58,6 +59,7 @@ fn shift(plain: (usize, TermNumber), s: &[u8], m: &mut [usize; MEMORY]) -> Read
 }
 
 // The closing bracket of an application with this key.
+#[tactic(auto, using(crate::proofs::Answered::entered_held), unfolding(crate::specs::Model::closed_at))]
 fn closed(s: &[u8], e: usize, m: &mut [usize; MEMORY], key: usize) -> Read
     requires { Held m.old }
     ensures { Answers result m.new (closed_at s.now e m.old key) }
@@ -71,6 +73,7 @@ fn closed(s: &[u8], e: usize, m: &mut [usize; MEMORY], key: usize) -> Read
 
 // The argument list at i, of symbol f.
 #[cycle(arguments_term)]
+#[tactic(auto, using(crate::proofs::Answered::deeper), unfolding(crate::specs::Model::arguments))]
 pub fn arguments(s: &[u8], i: usize, f: usize, m: &mut [usize; MEMORY], depth: usize) -> Read
     requires { Held m.old × (f ≤ 65535) }
     ensures { Answers result m.new (arguments depth s.now i f m.old) }
@@ -92,6 +95,7 @@ pub fn arguments(s: &[u8], i: usize, f: usize, m: &mut [usize; MEMORY], depth: u
 
 // The term at i, which goes no deeper than so many brackets.
 #[cycle(arguments_term)]
+#[tactic(auto, unfolding(crate::specs::Model::shifted))]
 pub fn term(s: &[u8], i: usize, m: &mut [usize; MEMORY], depth: usize) -> Read
     requires { Held m.old }
     ensures { Answers result m.new (term depth s.now i m.old) }

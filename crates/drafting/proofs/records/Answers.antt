@@ -13,9 +13,3 @@ loop-i-preserved c =
       one_more args.m.now args.from args.room.now args.at c.loop-i.i (omega arith) c.loop-i.invariant.1
           (wrote (λ k. (c.slice_known-in-loop-i-1.given k).fits) write.auto.out (omega arith) (write.ensures.0 ∙ c.record.ensures.0) write.ensures.1),
     )
-
-pub returns : goal.returns
-returns c =
-    let loop = c.loop-i in
-    let e : loop.i ≡ c.args.count = omega arith in
-    rw e at loop.invariant.1
