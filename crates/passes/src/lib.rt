@@ -20,6 +20,7 @@ pub fn settle(sheet: &[u8], d: &mut [u32]) -> bool
     requires d_len { (length d.old ≡ cells) × Table (points (sheet_of sheet.now)) (cell d.old) }
     ensures { FunctionsPut (sheet_of sheet.now) d.old d.new result }
 {
+    // A loop: how many passes it takes is not known before it runs.
     loop {
         match pass(sheet, d) {
             Ok(true) => {}
