@@ -2,23 +2,14 @@
 -- Assumes nothing.
 use Prim.Native.Nat.{ℕ, suc, ◌+◌, ◌≤◌, ◌<◌}
 use mathlib.Core.Path.{◌≡◌, refl}
-use mathlib.Core.Bool.{Bool}
 use mathlib.Core.List.{List}
 use lib.ListN.{length}
 use native.Mathlib.Decide.{dec_lt}
 use native.Mathlib.Omega.{arith}
 use Rattle.sheet.specs.Decode.{byte_at}
-use Rattle.meaning.specs.Decides.{Decides}
-use Rattle.meaning.proofs.Decides.{told}
-use Rattle.big.specs.Big.{big_of}
-use Rattle.recited.specs.Recited.{size_at, Whole, head_length, list_end, Steps, done, tie, other, IsRecord}
+use Rattle.recited.specs.Recited.{size_at, Whole, Steps, done, tie, other}
 use Rattle.recited.specs.Reading.{Ends}
 use Rattle.recited.proofs.Reading.{ends-within}
-
-pub steps-within : {r : List ℕ} {at count ties : ℕ} → Steps r at count ties → at ≤ length r
-steps-within (done e) = omega arith
-steps-within (tie W b S) = omega (arith, W.head)
-steps-within (other W b S) = omega (arith, W.head)
 
 -- so many steps are left from `at` on, and so many ties were found before
 pub record Left (r : List ℕ) (at left found ties : ℕ) : Type 0 where
@@ -86,9 +77,3 @@ module _ {r : List ℕ} {first count ties at left found : ℕ} (P : Passed r fir
 
     pub wrong-end : (at ≡ length r → ties ≡ found → ⊥) → Steps r first count ties → ⊥
     wrong-end f S = let L = P.from S in let (i, j) = none_left (rw e at L.steps) in f i (omega (arith, L.sum))
-
--- behind a head that is right, the steps alone tell
-pub record-tells : (r : List ℕ) (t : Bool) {first count : ℕ} → head_length ≤ length r → big_of r 0 4 ≡ length r → byte_at r 4 ≡ 1 →
-    first ≡ list_end r → count ≡ big_of r 8 2 → Decides (Steps r first count (byte_at r 5)) t → Decides (IsRecord r) t
-record-tells r t l e o f n D =
-    told (λ S. record { long = l; stated = e; one = o; steps = rw (f, n) at S }) (λ R. rw (f, n) R.steps) D
