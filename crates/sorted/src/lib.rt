@@ -21,16 +21,15 @@ pub fn first_from(keys: &[u64], m: usize, least: u64) -> usize
     requires { (m ≤ length keys.now) × Ascending m keys.now }
     ensures { FirstFrom m keys.now least result }
 {
-    match last_below(keys, m, least) {
+    match last_below(&keys[..m], least) {
         Some(last) => last + 1,
         None => 0,
     }
 }
 
-// The place of the last key below least.
-fn last_below(keys: &[u64], m: usize, least: u64) -> Option<usize>
-    requires { m ≤ length keys.now }
-    ensures { MatchOption result (NoneBelow 0 m keys.now least) (λ last. (last < m) × (get_or keys.now last 0 < least) × NoneBelow (last + 1) m keys.now least) }
+// The place of the last of some keys that is below least.
+fn last_below(keys: &[u64], least: u64) -> Option<usize>
+    ensures { MatchOption result (NoneBelow 0 keys.now least) (λ last. (last < length keys.now) × (get_or keys.now last 0 < least) × NoneBelow (last + 1) keys.now least) }
 {
-    keys[..m].iter().rposition(|key| *key < least)
+    keys.iter().rposition(|key| *key < least)
 }
