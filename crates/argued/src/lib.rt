@@ -243,7 +243,7 @@ fn write_path(
 {
     let mut ranks = [0u8; cells::STRIDE];
     let (kept, at) = write_ties(room, k, ties, count, need, names, walks, &mut ranks);
-    let end = paper::step(room, at, StepKind::ClosingEntry, e.0, 0, 0, 0, 0);
+    let end = paper::step(room, at, StepKind::ClosingEntry as u8, e.0, 0, 0, 0, 0);
     paper::head(room, end, kept, k, kept + 1);
     end
 }
@@ -269,7 +269,7 @@ fn write_tie(
     let mut ranks = [0u8; cells::STRIDE];
     let (kept, at) = write_ties(room, k, ties, count, need, names, walks, &mut ranks);
     let tied = paper::by_walks(room, at, a, b, c, names, &ranks, walks, ENDING);
-    let end = paper::step(room, tied, StepKind::ClosingEntry, e.0, 0, 0, 0, 0);
+    let end = paper::step(room, tied, StepKind::ClosingEntry as u8, e.0, 0, 0, 0, 0);
     paper::head(room, end, kept + 1, k, kept + 2);
     end
 }

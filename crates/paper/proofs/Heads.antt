@@ -8,14 +8,10 @@ use lib.IntN.{ℤ, pos}
 use native.Mathlib.Omega.{arith}
 use native.Mathlib.Decide.{dec_le}
 use borrow.Author.Tests.{lt-ltb, le-ltb}
-use denote.Enum.Declared.{tag_of}
 use Rattle.big.specs.Big.{Bytes, big_of, signed_of, complement_of, Kept}
 use Rattle.big.proofs.Signed.{signed_low, signed_high}
 use Rattle.big.proofs.Bytes.{bytes-length}
-use Rattle.paper.specs.declared.StepKind.{StepKind}
-use Rattle.paper.specs.declared.StepKind.TheVariants.{ByWalks, ByFunctions, ClosingWalk, ClosingEntry}
-use Rattle.paper.specs.contracts.StepKind as step-kind
-use Rattle.paper.specs.Record.{kind_number, step_head}
+use Rattle.paper.specs.Record.{step_head}
 use Rattle.paper.specs.Written.{Appended}
 use Rattle.paper.proofs.Pieces.{byte, two_bytes, number, then}
 
@@ -34,13 +30,6 @@ complement-signed w v l = go (dec_le (256 ^ w) (2 * v))
     go : Dec (256 ^ w ≤ 2 * v) → complement_of w (signed_of w v) ≡ v
     go (yes h) = complement-high w v l h
     go (no h) = complement_low w v (omega arith)
-
--- a kind cast to a number is the kind's number
-pub kind_tag : (k : StepKind) → tag_of step-kind.the_type k ≡ kind_number k
-kind_tag ByWalks = refl
-kind_tag ByFunctions = refl
-kind_tag ClosingWalk = refl
-kind_tag ClosingEntry = refl
 
 pub signed-zero : signed_of 8 0 ≡ pos 0
 unfolding signed_of

@@ -135,7 +135,7 @@ fn tie(
     let a = sketch::left(tie) as u8;
     let b = sketch::right(tie) as u8;
     if sketch::how(tie) == 0 {
-        return step(room, from, StepKind::ByFunctions, a, b, 0, 0, 0);
+        return step(room, from, StepKind::ByFunctions as u8, a, b, 0, 0, 0);
     }
     by_walks(room, from, a, b, 0, names, ranks, walks, 2 * t)
 }
@@ -158,7 +158,7 @@ pub fn by_walks(
 {
     let first = walks[at * PLACE] as u8;
     let second = walks[(at + 1) * PLACE] as u8;
-    let there = step(room, from, StepKind::ByWalks, a, b, c, first, second);
+    let there = step(room, from, StepKind::ByWalks as u8, a, b, c, first, second);
     let back = walk(room, there, names, ranks, walks, at);
     walk(room, back, names, ranks, walks, at + 1)
 }
@@ -182,7 +182,7 @@ pub fn round(
     let at = step(
         room,
         from,
-        StepKind::ClosingWalk,
+        StepKind::ClosingWalk as u8,
         a,
         0,
         0,
@@ -193,11 +193,11 @@ pub fn round(
     walk(room, then, names, ranks, walks, ENDING)
 }
 
-// A step without its bounds; c is two's complement.
+// A step without its bounds, of the kind with this number; c is two's complement.
 pub fn step(
     room: &mut [u8],
     at: usize,
-    kind: StepKind,
+    kind: u8,
     a: u8,
     b: u8,
     c: u64,
@@ -205,9 +205,9 @@ pub fn step(
     second: u8,
 ) -> usize
     requires { at + 13 ≤ length room.old }
-    ensures { Appended room.old room.new at result (step_head (kind_number kind) a b (signed_of 8 c) first second) }
+    ensures { Appended room.old room.new at result (step_head kind a b (signed_of 8 c) first second) }
 {
-    room[at] = kind as u8;
+    room[at] = kind;
     room[at + 1] = a;
     room[at + 2] = b;
     big::write(room, at + 3, 8, c);
