@@ -1,35 +1,20 @@
 -- What putting a key in leaves: the others moved up one by one, numbers that ascend again, and all of them still there.
 -- Assumes nothing.
 use Prim.Native.Nat.{ℕ, ◌+◌, ◌-◌, ◌≤◌, ◌<◌}
-use mathlib.Core.Path.{◌≡◌, ◌∙◌}
+use mathlib.Core.Path.{◌≡◌}
 use mathlib.Core.Logic.{⊎_elim}
 use mathlib.Core.List.{List}
-use lib.ListN.{length, get_or, set}
-use lib.Seq.{get_or-set_same, get_or-set_other}
+use lib.ListN.{get_or}
 use native.Mathlib.Nat.{eq-or-lt_of_le}
 use native.Mathlib.Omega.{arith}
 use Rattle.whole.proofs.Order.{order}
-use Rattle.std.specs.List.{CopiedTo, SameBelow, SameFrom}
-use Rattle.sorted.specs.Inserted.{Ascending, Inserted, FirstFrom}
+use Rattle.sorted.specs.Inserted.{Ascending, Inserted}
 
--- where one is below a number, so are all up to it
-pub all-below : {m last key : ℕ} {keys : List ℕ} → Ascending m keys → last < m → get_or keys last 0 < key → (q : ℕ) → q < last + 1 → get_or keys q 0 < key
-all-below {last} A l h q k = ⊎_elim (λ e. rw e h) (λ g. omega (arith, A.ascend q last g l)) (eq-or-lt_of_le {n = q} {m = last} (omega arith))
-
--- what stood from the place on is copied one place up, and the key goes in
-pub moved-up : {m key place : ℕ} {old : List ℕ} (mid : List ℕ) → FirstFrom m old key place → m < length mid →
-    CopiedTo old mid place (place + 1) (m - place) × SameBelow old mid (place + 1) × SameFrom old mid (place + 1 + (m - place)) →
-    Inserted m old (set mid place key) key place
-moved-up {m} {key} {place} mid F l (copied, low, high) = record {
-  within = F.within;
-  here = get_or-set_same mid place key 0 (omega (arith, F.within));
-  lower = λ q k. (get_or-set_other mid place q key 0 (omega arith) ∙ low q 0 (omega arith), F.below q k);
-  higher = λ q k g.
-      let e : place + (q + 1 - (place + 1)) ≡ q = omega arith in
-      let at = copied (q + 1) 0 (omega arith) (omega arith) in
-      (get_or-set_other mid place (q + 1) key 0 (omega arith) ∙ rw e at at, F.from q k g);
-  past = λ q k. get_or-set_other mid place q key 0 (omega arith) ∙ high q 0 (omega (arith, F.within));
-}
+-- the keys from place on, none of them below key, stand one higher; what stands at place is free
+pub record Shifted (m : ℕ) (old new : List ℕ) (key place : ℕ) : Type 0 where
+  pub same : (q : ℕ) → q < place → get_or new q 0 ≡ get_or old q 0
+  pub moved : (q : ℕ) → place ≤ q → q < m → (get_or new (q + 1) 0 ≡ get_or old q 0) × (key ≤ get_or old q 0)
+  pub past : (q : ℕ) → m < q → get_or new q 0 ≡ get_or old q 0
 
 pub ascending-none : (keys : List ℕ) → Ascending 0 keys
 ascending-none keys = record { ascend = λ p q l h. absurd (omega arith) }

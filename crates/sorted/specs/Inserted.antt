@@ -1,6 +1,6 @@
 -- Numbers that ascend, one more put in where it belongs, and where those from a least one on begin.
 -- Assumes nothing.
-use Rattle.std.specs.Prelude.{ℕ, ◌+◌, ◌≤◌, ◌<◌, ◌≡◌, List, length, get_or}
+use Rattle.std.specs.Prelude.{ℕ, ◌+◌, ◌≤◌, ◌<◌, ◌≡◌, List, get_or}
 
 -- the first m ascend
 pub record Ascending (m : ℕ) (keys : List ℕ) : Type 0 where
@@ -13,10 +13,6 @@ pub record Inserted (m : ℕ) (old new : List ℕ) (key place : ℕ) : Type 0 wh
   pub lower : (q : ℕ) → q < place → (get_or new q 0 ≡ get_or old q 0) × (get_or old q 0 < key)
   pub higher : (q : ℕ) → place ≤ q → q < m → (get_or new (q + 1) 0 ≡ get_or old q 0) × (key ≤ get_or old q 0)
   pub past : (q : ℕ) → m < q → get_or new q 0 ≡ get_or old q 0
-
--- none of the keys from place on is below least
-abbrev pub NoneBelow : ℕ → List ℕ → ℕ → Type 0
-NoneBelow place keys least = (q : ℕ) → place ≤ q → q < length keys → least ≤ get_or keys q 0
 
 -- place is the first of m from which no key is below least
 pub record FirstFrom (m : ℕ) (keys : List ℕ) (least place : ℕ) : Type 0 where
