@@ -9,7 +9,7 @@ ghost use Rattle.numeral.specs.Model.{Bounded, digit_of, DigitAs, number};
 
 use slips::{Found, Slip};
 
-// The byte at i, and behind the text a 0, which no text has.
+// The byte at i, and behind the text a 0, which no text has: no Option, so that readers compare without a case for the end.
 pub fn byte_at(s: &[u8], i: usize) -> u8
     ensures { result ≡ get_or s.now i 0 }
 {

@@ -37,6 +37,7 @@ fn judge_sheet(rt: &impl Print, bytes: &[u8]) -> io::Result<()> {
     }
 }
 
+// A sheet's refusal or a text's, by number and place: a Display of each would write the line twice.
 fn print_refused(rt: &impl Print, number: u8, place: u64) -> io::Result<()> {
     println!(rt; "refused {number} at {place}")
 }
