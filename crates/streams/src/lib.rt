@@ -16,6 +16,7 @@ pub fn read_full<R: Read>(input: &mut R, bytes: &mut [u8]) -> io::Result<usize>
     ensures end { IfOk result (λ n. n < length bytes.new → IsAtEnd (R.remaining input.new)) }
 {
     let mut done = 0;
+    // A while: how many bytes a read gives isn't known before.
     while done < bytes.len() {
         let n = input.read(&mut bytes[done..])?;
         if n == 0 {
