@@ -7,7 +7,9 @@ mod reasoning;
 mod records;
 mod words;
 
+use crate::reasoning::Reasoning;
 use crate::records::byte;
+use crate::words::Words;
 use reason::Reply;
 use refusal::Refusal;
 use sheet::EntryNumber;
@@ -31,13 +33,15 @@ fn say_refused(rt: &impl Print, why: Refusal) -> io::Result<()> {
 }
 
 // The list, its entries in words, the terms that aren't written out where they stand, and the steps.
-fn explain(rt: &impl Print, sheet: &[u8], record: &[u8]) -> io::Result<()> {
+fn explain<P: Print>(rt: &P, sheet: &[u8], record: &[u8]) -> io::Result<()> {
     let k = records::pair(record, 6);
-    let sizes = words::sizes(sheet);
+    let words = Words::new(rt, sheet);
     say_list(rt, record, k)?;
-    say_entries(rt, sheet, &sizes, record, k)?;
-    words::say_large(rt, sheet, &sizes)?;
-    reasoning::say_all(rt, sheet, &sizes, record, k)
+    for x in 0..k {
+        words.say_entry(listed(record, x))?;
+    }
+    words.say_large()?;
+    Reasoning::new(rt, sheet, &words, record).say_all(k)
 }
 
 // Each entry's number after a space.
@@ -47,19 +51,6 @@ fn say_list(rt: &impl Print, record: &[u8], k: u16) -> io::Result<()> {
         print!(rt; " {}", listed(record, x).0)?;
     }
     println!(rt)
-}
-
-fn say_entries(
-    rt: &impl Print,
-    sheet: &[u8],
-    sizes: &[u8; 256],
-    record: &[u8],
-    k: u16,
-) -> io::Result<()> {
-    for x in 0..k {
-        words::say_entry(rt, sheet, sizes, listed(record, x))?;
-    }
-    Ok(())
 }
 
 // The entry at place x of the list.

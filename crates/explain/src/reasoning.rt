@@ -3,7 +3,7 @@ ghost use Rattle.std.specs.Prelude.{◌≡◌, ◌+◌, ◌%◌, ◌^◌, ◌||�
 
 use crate::records;
 use crate::records::byte;
-use crate::words::{Gap, gap_of, say_entry, say_point};
+use crate::words::{Gap, Words, gap_of};
 use paper::StepKind;
 use sheet::{EntryNumber, Relation, Term, TermNumber};
 use std::{fmt, io};
@@ -50,155 +50,151 @@ impl fmt::Display for Source {
     }
 }
 
-// The steps of a record, which begin behind its list of k entries.
-pub fn say_all(
-    rt: &impl Print,
-    sheet: &[u8],
-    sizes: &[u8; 256],
-    record: &[u8],
-    k: u16,
-) -> io::Result<()> {
-    let count = usize::from(records::pair(record, 8));
-    let mut starts = [0u32; 256];
-    let mut at = paper::HEAD as u32 + u32::from(k);
-    for n in 0..count.min(MOST) {
-        starts[n] = at;
-        print!(rt; "step {n}: ")?;
-        at += u32::from(say_step(rt, sheet, sizes, record, &starts, at)?);
-    }
-    Ok(())
+// Says the steps of a reason record, in the words of its sheet. It has where the steps before the one that is said begin.
+#[derive(Drop)]
+pub struct Reasoning<'a, P> {
+    rt: &'a P,
+    sheet: &'a [u8],
+    words: &'a Words<'a, P>,
+    record: &'a [u8],
+    starts: [u32; 256],
 }
 
-// The step that begins at `at`; how many bytes it has.
-fn say_step(
-    rt: &impl Print,
-    sheet: &[u8],
-    sizes: &[u8; 256],
-    record: &[u8],
-    starts: &[u32; 256],
-    at: u32,
-) -> io::Result<u16> {
-    let first = at as usize;
-    let a = byte(record, first + 1);
-    let b = byte(record, first + 2);
-    let there = byte(record, first + 11);
-    let back = byte(record, first + 12);
-    let second = HEAD + 2 * u16::from(there);
-    match StepKind::try_from(byte(record, first)) {
-        Ok(StepKind::ByWalks) => {
-            say_tied(rt, sheet, sizes, a, b, records::step_c(record, at))?;
-            say_walk(rt, sheet, sizes, record, starts, a, at, HEAD, there)?;
-            say_walk(rt, sheet, sizes, record, starts, b, at, second, back)?;
-        }
-        Ok(StepKind::ByFunctions) => {
-            say_tied(rt, sheet, sizes, a, b, 0)?;
-            say_arguments(rt, sheet, sizes, a, b)?;
-        }
-        Ok(StepKind::ClosingWalk) => {
-            println!(rt; "a walk that closes")?;
-            say_walk(rt, sheet, sizes, record, starts, a, at, HEAD, there)?;
-            println!(rt; "  which can't be")?;
-        }
-        // no step of a record has another number
-        Ok(StepKind::ClosingEntry) | Err(_) => {
-            say_entry(rt, sheet, sizes, EntryNumber(a))?;
-            println!(rt; "  which can't be: by the ties they are equal")?;
-        }
-    }
-    Ok(second + 2 * u16::from(back))
-}
-
-fn say_tied(
-    rt: &impl Print,
-    sheet: &[u8],
-    sizes: &[u8; 256],
-    a: u8,
-    b: u8,
-    c: u64,
-) -> io::Result<()> {
-    say_point(rt, sheet, sizes, a)?;
-    print!(rt; " = ")?;
-    say_point(rt, sheet, sizes, b)?;
-    println!(rt; "{}", Gap(c))
-}
-
-// That the arguments of two applications are tied.
-fn say_arguments(rt: &impl Print, sheet: &[u8], sizes: &[u8; 256], i: u8, j: u8) -> io::Result<()> {
-    let f = records::term(sheet, TermNumber(i));
-    let g = records::term(sheet, TermNumber(j));
-    match f {
-        Term::Apply(_, a) => say_first(rt, sheet, sizes, a, g),
-        Term::Apply2(_, a, b) => {
-            say_first(rt, sheet, sizes, a, g)?;
-            say_second(rt, sheet, sizes, b, g)
-        }
-        _ => Ok(()),
-    }
-}
-
-fn say_first(
-    rt: &impl Print,
-    sheet: &[u8],
-    sizes: &[u8; 256],
-    a: TermNumber,
-    g: Term,
-) -> io::Result<()> {
-    print!(rt; "  since ")?;
-    match g {
-        Term::Apply(_, c) | Term::Apply2(_, c, _) => say_tied(rt, sheet, sizes, a.0, c.0, 0),
-        _ => Ok(()),
-    }
-}
-
-fn say_second(
-    rt: &impl Print,
-    sheet: &[u8],
-    sizes: &[u8; 256],
-    b: TermNumber,
-    g: Term,
-) -> io::Result<()> {
-    print!(rt; "  and ")?;
-    match g {
-        Term::Apply2(_, _, d) => say_tied(rt, sheet, sizes, b.0, d.0, 0),
-        _ => Ok(()),
-    }
-}
-
-// The bounds of a walk from a, `skip` bytes behind where its step begins, and what they come to.
-fn say_walk(
-    rt: &impl Print,
-    sheet: &[u8],
-    sizes: &[u8; 256],
-    record: &[u8],
-    starts: &[u32; 256],
-    a: u8,
-    at: u32,
-    skip: u16,
-    count: u8,
-) -> io::Result<()> {
-    let first = at as usize + usize::from(skip);
-    let mut sum = Leg {
-        from: a,
-        to: a,
-        c: 0,
-        strict: false,
-    };
-    for x in 0..count {
-        let bound = first + 2 * usize::from(x);
-        let leg = say_bound(
+impl<'a, P: Print> Reasoning<'a, P> {
+    pub fn new(rt: &'a P, sheet: &'a [u8], words: &'a Words<'a, P>, record: &'a [u8]) -> Self {
+        Reasoning {
             rt,
             sheet,
-            sizes,
+            words,
             record,
-            starts,
-            byte(record, bound),
-            byte(record, bound + 1),
-        )?;
-        sum = behind(sum, leg);
+            starts: [0; 256],
+        }
     }
-    print!(rt; "  so ")?;
-    say_leg(rt, sheet, sizes, sum)?;
-    println!(rt)
+
+    // The steps, which begin behind the list of k entries.
+    pub fn say_all(&mut self, k: u16) -> io::Result<()> {
+        let count = usize::from(records::pair(self.record, 8));
+        let mut at = paper::HEAD as u32 + u32::from(k);
+        for n in 0..count.min(MOST) {
+            self.starts[n] = at;
+            print!(self.rt; "step {n}: ")?;
+            at += u32::from(self.say_step(at)?);
+        }
+        Ok(())
+    }
+
+    // The step that begins at `at`; how many bytes it has.
+    fn say_step(&self, at: u32) -> io::Result<u16> {
+        let first = at as usize;
+        let a = byte(self.record, first + 1);
+        let b = byte(self.record, first + 2);
+        let there = byte(self.record, first + 11);
+        let back = byte(self.record, first + 12);
+        let second = HEAD + 2 * u16::from(there);
+        match StepKind::try_from(byte(self.record, first)) {
+            Ok(StepKind::ByWalks) => {
+                self.say_tied(a, b, records::step_c(self.record, at))?;
+                self.say_walk(a, at, HEAD, there)?;
+                self.say_walk(b, at, second, back)?;
+            }
+            Ok(StepKind::ByFunctions) => {
+                self.say_tied(a, b, 0)?;
+                self.say_arguments(a, b)?;
+            }
+            Ok(StepKind::ClosingWalk) => {
+                println!(self.rt; "a walk that closes")?;
+                self.say_walk(a, at, HEAD, there)?;
+                println!(self.rt; "  which can't be")?;
+            }
+            // no step of a record has another number
+            Ok(StepKind::ClosingEntry) | Err(_) => {
+                self.words.say_entry(EntryNumber(a))?;
+                println!(self.rt; "  which can't be: by the ties they are equal")?;
+            }
+        }
+        Ok(second + 2 * u16::from(back))
+    }
+
+    fn say_tied(&self, a: u8, b: u8, c: u64) -> io::Result<()> {
+        self.words.say_point(a)?;
+        print!(self.rt; " = ")?;
+        self.words.say_point(b)?;
+        println!(self.rt; "{}", Gap(c))
+    }
+
+    // That the arguments of two applications are tied.
+    fn say_arguments(&self, i: u8, j: u8) -> io::Result<()> {
+        let f = records::term(self.sheet, TermNumber(i));
+        let g = records::term(self.sheet, TermNumber(j));
+        match f {
+            Term::Apply(_, a) => self.say_first(a, g),
+            Term::Apply2(_, a, b) => {
+                self.say_first(a, g)?;
+                self.say_second(b, g)
+            }
+            _ => Ok(()),
+        }
+    }
+
+    fn say_first(&self, a: TermNumber, g: Term) -> io::Result<()> {
+        print!(self.rt; "  since ")?;
+        match g {
+            Term::Apply(_, c) | Term::Apply2(_, c, _) => self.say_tied(a.0, c.0, 0),
+            _ => Ok(()),
+        }
+    }
+
+    fn say_second(&self, b: TermNumber, g: Term) -> io::Result<()> {
+        print!(self.rt; "  and ")?;
+        match g {
+            Term::Apply2(_, _, d) => self.say_tied(b.0, d.0, 0),
+            _ => Ok(()),
+        }
+    }
+
+    // The bounds of a walk from a, `skip` bytes behind where its step begins, and what they come to.
+    fn say_walk(&self, a: u8, at: u32, skip: u16, count: u8) -> io::Result<()> {
+        let first = at as usize + usize::from(skip);
+        let mut sum = Leg {
+            from: a,
+            to: a,
+            c: 0,
+            strict: false,
+        };
+        for x in 0..count {
+            let bound = first + 2 * usize::from(x);
+            let leg = self.say_bound(byte(self.record, bound), byte(self.record, bound + 1))?;
+            sum = behind(sum, leg);
+        }
+        print!(self.rt; "  so ")?;
+        self.say_leg(sum)?;
+        println!(self.rt)
+    }
+
+    fn say_bound(&self, kind: u8, n: u8) -> io::Result<Leg> {
+        let leg = self.leg_of(kind, n);
+        print!(self.rt; "  ")?;
+        self.say_leg(leg)?;
+        println!(self.rt; " by {} {n}", Source::from(kind))?;
+        Ok(leg)
+    }
+
+    fn say_leg(&self, leg: Leg) -> io::Result<()> {
+        self.words.say_point(leg.from)?;
+        print!(self.rt; "{}", if leg.strict { " < " } else { " <= " })?;
+        self.words.say_point(leg.to)?;
+        print!(self.rt; "{}", Gap(leg.c))
+    }
+
+    // A bound by its kind and number, the odd kinds backwards.
+    fn leg_of(&self, kind: u8, n: u8) -> Leg {
+        let leg = match Source::from(kind) {
+            Source::Entry => entry_leg(records::entry(self.sheet, EntryNumber(n))),
+            Source::Term => term_leg(self.sheet, TermNumber(n)),
+            Source::Step => tie_leg(self.record, self.starts[usize::from(n)]),
+        };
+        if kind % 2 == 0 { leg } else { turned(leg) }
+    }
 }
 
 fn behind(sum: Leg, leg: Leg) -> Leg
@@ -210,39 +206,6 @@ fn behind(sum: Leg, leg: Leg) -> Leg
         c: sum.c.wrapping_add(leg.c),
         strict: sum.strict | leg.strict,
     }
-}
-
-fn say_bound(
-    rt: &impl Print,
-    sheet: &[u8],
-    sizes: &[u8; 256],
-    record: &[u8],
-    starts: &[u32; 256],
-    kind: u8,
-    n: u8,
-) -> io::Result<Leg> {
-    let leg = leg_of(sheet, record, starts, kind, n);
-    print!(rt; "  ")?;
-    say_leg(rt, sheet, sizes, leg)?;
-    println!(rt; " by {} {n}", Source::from(kind))?;
-    Ok(leg)
-}
-
-fn say_leg(rt: &impl Print, sheet: &[u8], sizes: &[u8; 256], leg: Leg) -> io::Result<()> {
-    say_point(rt, sheet, sizes, leg.from)?;
-    print!(rt; "{}", if leg.strict { " < " } else { " <= " })?;
-    say_point(rt, sheet, sizes, leg.to)?;
-    print!(rt; "{}", Gap(leg.c))
-}
-
-// A bound by its kind and number, the odd kinds backwards.
-fn leg_of(sheet: &[u8], record: &[u8], starts: &[u32; 256], kind: u8, n: u8) -> Leg {
-    let leg = match Source::from(kind) {
-        Source::Entry => entry_leg(records::entry(sheet, EntryNumber(n))),
-        Source::Term => term_leg(sheet, TermNumber(n)),
-        Source::Step => tie_leg(record, starts[usize::from(n)]),
-    };
-    if kind % 2 == 0 { leg } else { turned(leg) }
 }
 
 fn turned(leg: Leg) -> Leg

@@ -10,8 +10,92 @@ use std::{fmt, io};
 // term can have more parts than there is paper for.
 const MOST: u8 = 32;
 
-// How many parts each term has, up to one more than the most.
-pub fn sizes(sheet: &[u8]) -> [u8; 256] {
+// Says the terms and entries of a sheet. It has how many parts each term has, up to one more than the most.
+#[derive(Drop)]
+pub struct Words<'a, P> {
+    rt: &'a P,
+    sheet: &'a [u8],
+    sizes: [u8; 256],
+}
+
+impl<'a, P: Print> Words<'a, P> {
+    pub fn new(rt: &'a P, sheet: &'a [u8]) -> Self {
+        Words {
+            rt,
+            sheet,
+            sizes: sizes(sheet),
+        }
+    }
+
+    // The terms that aren't written out where they stand.
+    pub fn say_large(&self) -> io::Result<()> {
+        let t = records::count_terms(self.sheet);
+        for i in 0..t {
+            if MOST < self.sizes[usize::from(i)] {
+                print!(self.rt; "t{i} is ")?;
+                self.say_whole(TermNumber(i), MOST)?;
+                println!(self.rt)?;
+            }
+        }
+        Ok(())
+    }
+
+    // A point: a term, or the zero level.
+    pub fn say_point(&self, i: u8) -> io::Result<()> {
+        if i < records::count_terms(self.sheet) {
+            self.say_term(TermNumber(i), MOST)
+        } else {
+            print!(self.rt; "0")
+        }
+    }
+
+    // A term, or its number where it is large or lies too deep.
+    #[cycle(say_term_say_whole)]
+    fn say_term(&self, i: TermNumber, deep: u8) -> io::Result<()> {
+        if 0 < deep && self.sizes[usize::from(i.0)] <= MOST {
+            self.say_whole(i, deep - 1)
+        } else {
+            print!(self.rt; "t{}", i.0)
+        }
+    }
+
+    // A term as it is typed.
+    #[cycle(say_term_say_whole)]
+    fn say_whole(&self, i: TermNumber, deep: u8) -> io::Result<()> {
+        match records::term(self.sheet, i) {
+            Term::Unknown => print!(self.rt; "x{}", i.0),
+            Term::Number(c) => print!(self.rt; "{}", typed(c)),
+            Term::Shift(a, c) => {
+                self.say_term(a, deep)?;
+                print!(self.rt; "{:+}", typed(c))
+            }
+            Term::Apply(f, a) => {
+                print!(self.rt; "f{}(", f.0)?;
+                self.say_term(a, deep)?;
+                print!(self.rt; ")")
+            }
+            Term::Apply2(f, a, b) => {
+                print!(self.rt; "f{}(", f.0)?;
+                self.say_term(a, deep)?;
+                print!(self.rt; ",")?;
+                self.say_term(b, deep)?;
+                print!(self.rt; ")")
+            }
+        }
+    }
+
+    // An entry by its number and in words.
+    pub fn say_entry(&self, e: EntryNumber) -> io::Result<()> {
+        let entry = records::entry(self.sheet, e);
+        print!(self.rt; "entry {}: ", e.0)?;
+        self.say_point(entry.a.0)?;
+        print!(self.rt; "{}", sign(entry.relation))?;
+        self.say_point(entry.b.0)?;
+        println!(self.rt; "{}", Gap(gap_of(entry.c)))
+    }
+}
+
+fn sizes(sheet: &[u8]) -> [u8; 256] {
     let t = records::count_terms(sheet);
     let mut sizes = [0u8; 256];
     for i in 0..t {
@@ -32,90 +116,6 @@ fn together(a: u8, b: u8) -> u8
     ensures { result ≡ min (a + b) 32 + 1 }
 {
     a.saturating_add(b).min(MOST) + 1
-}
-
-// The terms that aren't written out where they stand.
-pub fn say_large(rt: &impl Print, sheet: &[u8], sizes: &[u8; 256]) -> io::Result<()> {
-    let t = records::count_terms(sheet);
-    for i in 0..t {
-        if MOST < sizes[usize::from(i)] {
-            print!(rt; "t{i} is ")?;
-            say_whole(rt, sheet, sizes, TermNumber(i), MOST)?;
-            println!(rt)?;
-        }
-    }
-    Ok(())
-}
-
-// A point: a term, or the zero level.
-pub fn say_point(rt: &impl Print, sheet: &[u8], sizes: &[u8; 256], i: u8) -> io::Result<()> {
-    if i < records::count_terms(sheet) {
-        say_term(rt, sheet, sizes, TermNumber(i), MOST)
-    } else {
-        print!(rt; "0")
-    }
-}
-
-// A term, or its number where it is large or lies too deep.
-#[cycle(say_term_say_whole)]
-fn say_term(
-    rt: &impl Print,
-    sheet: &[u8],
-    sizes: &[u8; 256],
-    i: TermNumber,
-    deep: u8,
-) -> io::Result<()> {
-    if 0 < deep && sizes[usize::from(i.0)] <= MOST {
-        say_whole(rt, sheet, sizes, i, deep - 1)
-    } else {
-        print!(rt; "t{}", i.0)
-    }
-}
-
-// A term as it is typed.
-#[cycle(say_term_say_whole)]
-fn say_whole(
-    rt: &impl Print,
-    sheet: &[u8],
-    sizes: &[u8; 256],
-    i: TermNumber,
-    deep: u8,
-) -> io::Result<()> {
-    match records::term(sheet, i) {
-        Term::Unknown => print!(rt; "x{}", i.0),
-        Term::Number(c) => print!(rt; "{}", typed(c)),
-        Term::Shift(a, c) => {
-            say_term(rt, sheet, sizes, a, deep)?;
-            print!(rt; "{:+}", typed(c))
-        }
-        Term::Apply(f, a) => {
-            print!(rt; "f{}(", f.0)?;
-            say_term(rt, sheet, sizes, a, deep)?;
-            print!(rt; ")")
-        }
-        Term::Apply2(f, a, b) => {
-            print!(rt; "f{}(", f.0)?;
-            say_term(rt, sheet, sizes, a, deep)?;
-            print!(rt; ",")?;
-            say_term(rt, sheet, sizes, b, deep)?;
-            print!(rt; ")")
-        }
-    }
-}
-
-// An entry by its number and in words.
-pub fn say_entry(
-    rt: &impl Print,
-    sheet: &[u8],
-    sizes: &[u8; 256],
-    e: EntryNumber,
-) -> io::Result<()> {
-    let entry = records::entry(sheet, e);
-    print!(rt; "entry {}: ", e.0)?;
-    say_point(rt, sheet, sizes, entry.a.0)?;
-    print!(rt; "{}", sign(entry.relation))?;
-    say_point(rt, sheet, sizes, entry.b.0)?;
-    println!(rt; "{}", Gap(gap_of(entry.c)))
 }
 
 fn sign(relation: Relation) -> &'static str {
