@@ -8,7 +8,8 @@ use Rattle.sheet.specs.declared.Entry.{Entry as Code-Entry}
 use Rattle.sheet.specs.Says.{biased_says, entry_says}
 use Rattle.sheet.specs.Sheet.{Entry, Sheet, count_terms, count_entries, entry_at}
 use Rattle.settled.specs.Settled.{points}
-use Rattle.layers.specs.Bounds.{bounds, Sound, Reachable}
+use Rattle.layers.specs.Bounds.{bounds, from_at, to_at, Sound, Reachable}
+use Rattle.layers.specs.declared.Bound.{Bound}
 use Rattle.layers.proofs.Rests.{reachable, sound-fewer, way_back}
 use Rattle.ties.specs.Ties.{Broken}
 use Rattle.forest.specs.Labels.{Labelled}
@@ -32,8 +33,8 @@ readable l full L = record {
   named = λ x h. nameable (L.named x h);
 }
 
-module _ {sheet froms tos codes names ties labels best room : List ℕ} {m listed count put k : ℕ}
-    (Y : Ready sheet froms tos codes names ties labels best room m listed count put k) where
+module _ {sheet : List ℕ} {list : List Bound} {names ties labels best room : List ℕ} {m listed count put k : ℕ}
+    (Y : Ready sheet list names ties labels best room m listed count put k) where
   abbrev s : Sheet
   s = sheet_of sheet
 
@@ -53,16 +54,16 @@ module _ {sheet froms tos codes names ties labels best room : List ℕ} {m liste
     pub points-few : t + 1 ≤ stride
     points-few = omega (arith, Y.formed.terms)
 
-    pub round-asks : put < listed → Sound (t + 1) (bounds (put + 1) froms tos codes)
-        × Reachable (t + 1) (bounds put froms tos codes) (get_or tos put 0) (get_or froms put 0)
+    pub round-asks : put < listed → Sound (t + 1) (bounds (put + 1) list)
+        × Reachable (t + 1) (bounds put list) (to_at list put) (from_at list put)
     round-asks l =
         rw e (
           sound-fewer (omega arith) Y.drafted.sound,
-          way_back (points s) listed put froms tos codes l Y.drafted.sound (cell best) Y.grew.exact (Y.grew.shut l),
+          way_back (points s) listed put list l Y.drafted.sound (cell best) Y.grew.exact (Y.grew.shut l),
         )
 
   -- what is gathered can be written
-  pub writable : {walks walks' : List ℕ} {need need' : List Bool} → Gathered s froms tos codes names ties count walks walks' need need' →
+  pub writable : {walks walks' : List ℕ} {need need' : List Bool} → Gathered s list names ties count walks walks' need need' →
       walks_length ≤ length walks' → count ≤ length need' → Writable room ties names walks' need' k count
   writable {walks' = walks'} G full q = record {
     enough = Y.enough;
@@ -76,8 +77,8 @@ module _ {sheet froms tos codes names ties labels best room : List ℕ} {m liste
   }
 
 -- where the table has all bounds, and an entry on tied terms was read
-module _ {sheet froms tos codes names ties labels best room : List ℕ} {m listed count k : ℕ}
-    (Y : Ready sheet froms tos codes names ties labels best room m listed count listed k) (entry : Code-Entry) {x : ℕ}
+module _ {sheet : List ℕ} {list : List Bound} {names ties labels best room : List ℕ} {m listed count k : ℕ}
+    (Y : Ready sheet list names ties labels best room m listed count listed k) (entry : Code-Entry) {x : ℕ}
     (E : entry_says entry ≡ entry_at (sheet_of sheet) x) (x< : x < count_entries (sheet_of sheet)) where
   pub left< : entry.a.0 < count_terms (sheet_of sheet)
   left< = omega (arith, Y.formed.left x x<, ap (λ (y : Entry). y.a) E)
@@ -96,9 +97,9 @@ module _ {sheet froms tos codes names ties labels best room : List ℕ} {m liste
     pub labelled : Labelled (t + 1) ties labels count
     labelled = rw e Y.drafted.laid.labelled
 
-    pub both-asks : Broken (cell best) (entry_at (sheet_of sheet) x) → Sound (t + 1) (bounds listed froms tos codes)
-        × Reachable (t + 1) (bounds listed froms tos codes) entry.a.0 entry.b.0
-        × Reachable (t + 1) (bounds listed froms tos codes) entry.b.0 entry.a.0
+    pub both-asks : Broken (cell best) (entry_at (sheet_of sheet) x) → Sound (t + 1) (bounds listed list)
+        × Reachable (t + 1) (bounds listed list) entry.a.0 entry.b.0
+        × Reachable (t + 1) (bounds listed list) entry.b.0 entry.a.0
     both-asks B =
         let T = on_tied B in
         rw e (

@@ -16,6 +16,7 @@ use Rattle.sheet.specs.Says.{biased_says, entry_says}
 use Rattle.sheet.specs.Sheet.{Entry, Sheet, count_terms, count_entries, entry_at}
 use Rattle.ties.specs.Ties.{Broken}
 use Rattle.layers.specs.Bounds.{bounds}
+use Rattle.layers.specs.declared.Bound.{Bound}
 use Rattle.reasons.specs.Step.{Step}
 use Rattle.reasons.specs.Pruned.{pruned, Prunable}
 use Rattle.reasons.proofs.Pruned.{pruned-closes, pruned-spare}
@@ -36,18 +37,18 @@ closed : {s : Sheet} {S keep : Set} {steps : List Step} {last k : ℕ} {old new 
     StepsWritten k (pruned keep steps) old new end → Closed s S k old new end
 closed P w = record { steps = _; last = _; closes = pruned-closes P; spare = pruned-spare P; written = w }
 
-module _ {sheet froms tos codes names ties labels best room : List ℕ} {m listed count put k : ℕ}
-    (Y : Ready sheet froms tos codes names ties labels best room m listed count put k) {t : ℕ} (e : t ≡ count_terms (sheet_of sheet)) where
+module _ {sheet : List ℕ} {list : List Bound} {names ties labels best room : List ℕ} {m listed count put k : ℕ}
+    (Y : Ready sheet list names ties labels best room m listed count put k) {t : ℕ} (e : t ≡ count_terms (sheet_of sheet)) where
   abbrev s : Sheet
   s = sheet_of sheet
 
   abbrev DraftOf : Set → Type 0
-  DraftOf S = Drafted s S froms tos codes names ties labels m listed count
+  DraftOf S = Drafted s S list names ties labels m listed count
 
   -- bound `put` closes a walk
   module _ {w walks walks' : List ℕ} {before need₀ need' : List Bool}
-      (F : FoundRound (t + 1) (bounds put froms tos codes) names put ending w walks before need₀)
-      (G : Gathered s froms tos codes names ties count walks walks' (set need₀ count true) need') (l : put < listed) (c : count < length need₀)
+      (F : FoundRound (t + 1) (bounds put list) names put ending w walks before need₀)
+      (G : Gathered s list names ties count walks walks' (set need₀ count true) need') (l : put < listed) (c : count < length need₀)
       (same : length walks' ≡ length walks) where
     pub round-marked : marked need' count ≡ true
     round-marked = G.stays count (get_or-set_same need₀ count true false c)
@@ -58,7 +59,7 @@ module _ {sheet froms tos codes names ties labels best room : List ℕ} {m liste
         (readable Y.all-names (omega arith) L, omega (arith, L.short))
 
     pub round-closes : {old new : List ℕ} {end : ℕ} → ((u : ℕ) → marked before u ≡ true → ⊥) →
-        StepsWritten k (pruned (marked need') (round_steps froms names ties walks' count put)) old new end → (S : Set) → DraftOf S → Closed s S k old new end
+        StepsWritten k (pruned (marked need') (round_steps list names ties walks' count put)) old new end → (S : Set) → DraftOf S → Closed s S k old new end
     round-closes none W S D =
         closed (round-prunable Y.formed D G put l Y.grew.exact (Y.grew.shut l) (rw e at F) none
         (behind_more count (omega arith) behind-none) (get_or-set_same need₀ count true false c) same) W
@@ -78,8 +79,8 @@ signed-c r v r< v< e =
     go (yes l) = inl (omega arith)
     go (no l) = inr (omega arith)
 
-module _ {sheet froms tos codes names ties labels best room : List ℕ} {m listed count k : ℕ}
-    (Y : Ready sheet froms tos codes names ties labels best room m listed count listed k) (entry : Code-Entry) {x : ℕ}
+module _ {sheet : List ℕ} {list : List Bound} {names ties labels best room : List ℕ} {m listed count k : ℕ}
+    (Y : Ready sheet list names ties labels best room m listed count listed k) (entry : Code-Entry) {x : ℕ}
     (E : entry_says entry ≡ entry_at (sheet_of sheet) x) (x< : x < count_entries (sheet_of sheet)) (B : Broken (cell best) (entry_at (sheet_of sheet) x)) where
   broken-entry : (S : Set) → S x ≡ true → BrokenEntry (sheet_of sheet) S (cell best) x entry.a.0 entry.b.0 (biased_says entry.c)
   broken-entry S h = record {
@@ -94,21 +95,21 @@ module _ {sheet froms tos codes names ties labels best room : List ℕ} {m liste
 
   -- it closes by the path between its terms
   module _ {walks walks' : List ℕ} {before need₀ need' : List Bool} (P : PathMarked ties count entry.a.0 entry.b.0 before need₀)
-      (G : Gathered (sheet_of sheet) froms tos codes names ties count walks walks' (set need₀ count true) need') (c : count < length need₀) where
+      (G : Gathered (sheet_of sheet) list names ties count walks walks' (set need₀ count true) need') (c : count < length need₀) where
     pub path-marked : marked need' count ≡ true
     path-marked = G.stays count (get_or-set_same need₀ count true false c)
 
     pub path-closes : {old new : List ℕ} {end : ℕ} → ((u : ℕ) → marked before u ≡ true → ⊥) →
         StepsWritten k (pruned (marked need') (path_steps names ties walks' count x)) old new end →
-        (S : Set) → S x ≡ true → Drafted (sheet_of sheet) S froms tos codes names ties labels m listed count → Closed (sheet_of sheet) S k old new end
+        (S : Set) → S x ≡ true → Drafted (sheet_of sheet) S list names ties labels m listed count → Closed (sheet_of sheet) S k old new end
     path-closes none W S h D =
         closed (path-prunable Y.formed D G x Y.grew.exact (Y.grew.saturated refl) (broken-entry S h) P none
         (behind_more count (omega arith) behind-none) (get_or-set_same need₀ count true false c)) W
 
   -- or behind a tie of them
   module _ {t : ℕ} (e : t ≡ count_terms (sheet_of sheet)) {w walks walks' : List ℕ} {before need₀ need' : List Bool}
-      (F : FoundBoth (t + 1) (bounds listed froms tos codes) entry.a.0 entry.b.0 names ending w walks before need₀)
-      (G : Gathered (sheet_of sheet) froms tos codes names ties count walks walks' (set (set need₀ count true) (count + 1) true) need')
+      (F : FoundBoth (t + 1) (bounds listed list) entry.a.0 entry.b.0 names ending w walks before need₀)
+      (G : Gathered (sheet_of sheet) list names ties count walks walks' (set (set need₀ count true) (count + 1) true) need')
       (c : count + 1 < length need₀) (same : length walks' ≡ length walks) where
     first-marked : marked (set (set need₀ count true) (count + 1) true) count ≡ true
     first-marked = get_or-set_other (set need₀ count true) (count + 1) count true false (omega arith) ∙ get_or-set_same need₀ count true false (omega arith)
@@ -127,7 +128,7 @@ module _ {sheet froms tos codes names ties labels best room : List ℕ} {m liste
     pub tie-closes : {old new : List ℕ} {end : ℕ} (r : ℕ) → r < 2 ^ 64 → entry.c.0 < 65536 → (r + 32768) % 2 ^ 64 ≡ entry.c.0 →
         (cell labels count entry.a.0 ≡ cell labels count entry.b.0 → ⊥) → ((u : ℕ) → marked before u ≡ true → ⊥) →
         StepsWritten k (pruned (marked need') (tie_steps names ties walks' count entry.a.0 entry.b.0 (signed_of 8 r) x)) old new end →
-        (S : Set) → S x ≡ true → Drafted (sheet_of sheet) S froms tos codes names ties labels m listed count → Closed (sheet_of sheet) S k old new end
+        (S : Set) → S x ≡ true → Drafted (sheet_of sheet) S list names ties labels m listed count → Closed (sheet_of sheet) S k old new end
     tie-closes r r< c< q far none W S h D =
         closed (tie-prunable Y.formed D G x Y.grew.exact (broken-entry S h) far (rw e at F) none
         (behind_more (count + 1) (omega arith) (behind_more count (omega arith) behind-none)) first-marked second-marked same)

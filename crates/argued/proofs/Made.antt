@@ -6,6 +6,7 @@ use Rattle.order.specs.First.{Set}
 use Rattle.sheet.specs.Decode.{Sized, sheet_of}
 use Rattle.sheet.specs.Sheet.{Sheet, WellFormed, count_entries}
 use Rattle.grown.specs.Grown.{Grew}
+use Rattle.layers.specs.declared.Bound.{Bound}
 use Rattle.jotted.specs.Jotted.{most}
 use Rattle.drafted.specs.Drafted.{Drafted}
 use Rattle.paper.specs.Record.{head_length, reason_room}
@@ -14,15 +15,15 @@ use Rattle.argued.specs.Draft.{Ready}
 use Rattle.argued.proofs.Record.{few-listed}
 
 -- where no bound was refused, the table has all of them
-pub all-grew : {s : Sheet} {froms tos codes : List ℕ} {m : ℕ} {d : ℕ → ℕ → ℕ} {listed put : ℕ} → Grew s froms tos codes m d listed put → listed ≤ put →
-    Grew s froms tos codes m d listed listed
+pub all-grew : {s : Sheet} {list : List Bound} {m : ℕ} {d : ℕ → ℕ → ℕ} {listed put : ℕ} → Grew s list m d listed put → listed ≤ put →
+    Grew s list m d listed listed
 all-grew {listed = listed} {put} G l = rw (let e : put ≡ listed = omega (arith, G.at-most) in e) at G
 
-pub ready : {sheet froms tos codes names ties labels best old room : List ℕ} {m listed put count k : ℕ} {S : Set} → Sized sheet → WellFormed (sheet_of sheet) →
-    Drafted (sheet_of sheet) S froms tos codes names ties labels m listed count → Grew (sheet_of sheet) froms tos codes m (cell best) listed put →
+pub ready : {sheet : List ℕ} {list : List Bound} {names ties labels best old room : List ℕ} {m listed put count k : ℕ} {S : Set} → Sized sheet → WellFormed (sheet_of sheet) →
+    Drafted (sheet_of sheet) S list names ties labels m listed count → Grew (sheet_of sheet) list m (cell best) listed put →
     Lists (count_entries (sheet_of sheet)) S old room head_length k → reason_room ≤ length old →
     length names ≡ most → length ties ≡ stride → length labels ≡ cells → length best ≡ cells →
-    Ready sheet froms tos codes names ties labels best room m listed count put k
+    Ready sheet list names ties labels best room m listed count put k
 ready {names = names} {old = old} {room} {S = S} z W D G L r n t l b = record {
   sized = z;
   formed = W;

@@ -26,6 +26,7 @@ ghost use Rattle.paper.specs.Written.{Appended, Ranked, Nameable, Readable};
 ghost use Rattle.argued.specs.Draft.{Ready, Writable};
 ghost use Rattle.argued.specs.Argued.{StepsWritten, Closed, Argued};
 
+use layers::Bound;
 use paper::StepKind;
 use sheet::EntryNumber;
 use sketch::ENDING;
@@ -38,36 +39,25 @@ pub fn argue(sheet: &[u8], room: &mut [u8], marks: &[bool], d: &mut [u32]) -> us
     ensures argued { Argued (sheet_of sheet.now) (marked marks.now) room.old room.new result }
     ensures kept { Kept (points (sheet_of sheet.now)) d.old d.new }
 {
-    let mut froms = [0u8; jotted::MOST];
-    let mut tos = [0u8; jotted::MOST];
-    let mut codes = [0u32; jotted::MOST];
+    let mut list = [Bound::NOWHERE; jotted::MOST];
+    // The names stay a list of their own: those of ties are given only when the ties are laid, and the bounds are only lent then.
     let mut names = [0u16; jotted::MOST];
     let mut ties = [0u32; cells::STRIDE];
     let mut labels = [0u8; cells::CELLS];
-    let m = ledger::list(sheet, marks, &mut froms, &mut tos, &mut codes, &mut names);
-    let g = grown::grow(sheet, d, &mut froms, &mut tos, &mut codes, m);
+    let m = ledger::list(sheet, marks, &mut list, &mut names);
+    let g = grown::grow(sheet, d, &mut list, m);
     let listed = g.listed;
     let put = g.put;
-    let count = laid::lay(
-        sheet,
-        &froms,
-        &tos,
-        &codes,
-        &mut names,
-        m,
-        listed,
-        &mut ties,
-        &mut labels,
-    );
+    let count = laid::lay(sheet, &list, &mut names, m, listed, &mut ties, &mut labels);
     let k = paper::list(room, marks, reading::count_entries(sheet));
     if put < listed {
         return by_round(
-            sheet, room, k, &froms, &tos, &codes, &names, m, listed, &ties, &labels, count, put, d,
+            sheet, room, k, &list, &names, m, listed, &ties, &labels, count, put, d,
         );
     }
     let e = broken(sheet, marks, d);
     by_entry(
-        sheet, room, k, &froms, &tos, &codes, &names, m, listed, &ties, &labels, count, e, d,
+        sheet, room, k, &list, &names, m, listed, &ties, &labels, count, e, d,
     )
 }
 
@@ -93,9 +83,7 @@ fn by_round(
     sheet: &[u8],
     room: &mut [u8],
     k: usize,
-    froms: &[u8],
-    tos: &[u8],
-    codes: &[u32],
+    list: &[Bound],
     names: &[u16],
     m: usize,
     listed: usize,
@@ -105,20 +93,19 @@ fn by_round(
     e: usize,
     best: &mut [u32],
 ) -> usize
-    requires { Ready sheet.now froms.now tos.now codes.now names.now ties.now labels.now best.old room.old m listed count e k × (e < listed) }
-    ensures closed { (S : Set) → Drafted (sheet_of sheet.now) S froms.now tos.now codes.now names.now ties.now labels.now m listed count → Closed (sheet_of sheet.now) S k room.old room.new result }
+    requires { Ready sheet.now list.now names.now ties.now labels.now best.old room.old m listed count e k × (e < listed) }
+    ensures closed { (S : Set) → Drafted (sheet_of sheet.now) S list.now names.now ties.now labels.now m listed count → Closed (sheet_of sheet.now) S k room.old room.new result }
     ensures kept { Kept (points (sheet_of sheet.now)) best.old best.new }
 {
     let n = reading::count_terms(sheet) + 1;
     let mut need = [false; cells::STRIDE];
     let mut walks = [0u16; sketch::WALKS];
-    needed::round(froms, tos, codes, names, n, e, best, &mut need, &mut walks);
+    needed::round(list, names, n, e, best, &mut need, &mut walks);
     need[count] = true;
     needed::gather(
-        sheet, froms, tos, codes, names, m, listed, ties, labels, count, best, &mut need,
-        &mut walks,
+        sheet, list, names, m, listed, ties, labels, count, best, &mut need, &mut walks,
     );
-    write_round(room, k, ties, count, &need, names, &walks, froms[e], e)
+    write_round(room, k, ties, count, &need, names, &walks, list[e].from, e)
 }
 
 // So where entry e is a ≠ entry on terms tied at exactly its c: by the path between them, or, where the ties don't have them in one group,
@@ -127,9 +114,7 @@ fn by_entry(
     sheet: &[u8],
     room: &mut [u8],
     k: usize,
-    froms: &[u8],
-    tos: &[u8],
-    codes: &[u32],
+    list: &[Bound],
     names: &[u16],
     m: usize,
     listed: usize,
@@ -139,9 +124,9 @@ fn by_entry(
     e: EntryNumber,
     best: &mut [u32],
 ) -> usize
-    requires ready { Ready sheet.now froms.now tos.now codes.now names.now ties.now labels.now best.old room.old m listed count listed k }
+    requires ready { Ready sheet.now list.now names.now ties.now labels.now best.old room.old m listed count listed k }
     requires e_bound { (e.0 < count_entries (sheet_of sheet.now)) × Broken (cell best.old) (entry_at (sheet_of sheet.now) e.0) }
-    ensures closed { (S : Set) → S e.0 ≡ true → Drafted (sheet_of sheet.now) S froms.now tos.now codes.now names.now ties.now labels.now m listed count → Closed (sheet_of sheet.now) S k room.old room.new result }
+    ensures closed { (S : Set) → S e.0 ≡ true → Drafted (sheet_of sheet.now) S list.now names.now ties.now labels.now m listed count → Closed (sheet_of sheet.now) S k room.old room.new result }
     ensures kept { Kept (points (sheet_of sheet.now)) best.old best.new }
 {
     let n = reading::count_terms(sheet) + 1;
@@ -154,19 +139,17 @@ fn by_entry(
         forest::mark(labels, ties, &mut need, n, count, a, b);
         need[count] = true;
         needed::gather(
-            sheet, froms, tos, codes, names, m, listed, ties, labels, count, best, &mut need,
-            &mut walks,
+            sheet, list, names, m, listed, ties, labels, count, best, &mut need, &mut walks,
         );
         return write_path(room, k, ties, count, &need, names, &walks, e);
     }
     needed::both(
-        froms, tos, codes, names, listed, n, a, b, best, &mut need, &mut walks, ENDING,
+        list, names, listed, n, a, b, best, &mut need, &mut walks, ENDING,
     );
     need[count] = true;
     need[count + 1] = true;
     needed::gather(
-        sheet, froms, tos, codes, names, m, listed, ties, labels, count, best, &mut need,
-        &mut walks,
+        sheet, list, names, m, listed, ties, labels, count, best, &mut need, &mut walks,
     );
     let c = u64::from(entry.c.0).wrapping_sub(32768);
     write_tie(

@@ -23,6 +23,7 @@ use Rattle.laid.proofs.Tables.{listed_more}
 use Rattle.settled.specs.Settled.{zero_level, points, TermHeld, BoundHeld, Apart, Settled}
 use Rattle.settled.proofs.Meet.{settled-meets}
 use Rattle.layers.specs.Bounds.{bounds, Listed}
+use Rattle.layers.specs.declared.Bound.{Bound}
 use Rattle.ledger.specs.Ledger.{TermIn, BoundIn, Ledger}
 use Rattle.grown.specs.Grown.{Grew}
 
@@ -60,12 +61,12 @@ module _ {N : ℕ} {E : ℕ → ℕ → Kind → Type 0} {d : ℕ → ℕ → �
   entry-held at_most a b c h = at-most c h
   entry-held less a b c h = below c h
 
-module _ {s : Sheet} {S : Set} {froms tos codes names : List ℕ} {m listed : ℕ} {d : ℕ → ℕ → ℕ} (W : WellFormed s)
-    (L : Ledger s S froms tos codes names m (count_terms s) (count_entries s)) (G : Grew s froms tos codes m d listed listed) where
+module _ {s : Sheet} {S : Set} {list : List Bound} {names : List ℕ} {m listed : ℕ} {d : ℕ → ℕ → ℕ} (W : WellFormed s)
+    (L : Ledger s S list names m (count_terms s) (count_entries s)) (G : Grew s list m d listed listed) where
   settled : Apart s S d → Settled s S d
   settled far =
       let l : m ≤ listed = omega (arith, G.ties.listed-is) in
-      let A : Among (Listed (bounds m froms tos codes)) (Held (points s) d) = record { more = λ e. G.exact.held.more ((listed_more l).more e) } in
+      let A : Among (Listed (bounds m list)) (Held (points s) d) = record { more = λ e. G.exact.held.more ((listed_more l).more e) } in
       record {
         closed = G.exact.table.closed;
         terms = λ i l. term-held A (zero_level s) i (term_at s i) (L.terms i l);

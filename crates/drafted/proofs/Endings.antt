@@ -21,7 +21,8 @@ use Rattle.sheet.specs.Sheet.{Sheet, WellFormed, entry_at}
 use Rattle.settled.specs.Settled.{points, Saturated}
 use Rattle.walked.specs.Borne.{Exact}
 use Rattle.walked.proofs.Found.{under, kind-to, kind-back}
-use Rattle.layers.specs.Bounds.{bounds, Listed, Goes}
+use Rattle.layers.specs.Bounds.{bounds, from_at, to_at, code_at, Listed, Goes}
+use Rattle.layers.specs.declared.Bound.{Bound as ListedBound}
 use Rattle.reasons.specs.Step.{Bound, Step, by_walks, closing_walk, closing_entry, step_at}
 use Rattle.reasons.specs.Rules.{Point, Ties, Tied, Under, TieRight}
 use Rattle.reasons.specs.Rules.Ties.{walks as of-walks}
@@ -52,33 +53,33 @@ under-rules no_gap h = h
 under-rules (weak c) h = h
 under-rules (strict c) h = h
 
-module _ {s : Sheet} {S : Set} {froms tos codes names ties labels : List ℕ} {m listed count : ℕ} (W : WellFormed s)
-    (D : Drafted s S froms tos codes names ties labels m listed count) {walks walks' : List ℕ} {need need' : List Bool}
-    (G : Gathered s froms tos codes names ties count walks walks' need need') where
+module _ {s : Sheet} {S : Set} {list : List ListedBound} {names ties labels : List ℕ} {m listed count : ℕ} (W : WellFormed s)
+    (D : Drafted s S list names ties labels m listed count) {walks walks' : List ℕ} {need need' : List Bool}
+    (G : Gathered s list names ties count walks walks' need need') where
   pub round-prunable : {w : List ℕ} {before need₀ : List Bool} {d : ℕ → ℕ → ℕ} (e : ℕ) → e < listed →
-      Exact (points s) (Listed (bounds e froms tos codes)) d → sum_of (get_or codes e 0) (d (get_or tos e 0) (get_or froms e 0)) < base →
-      FoundRound (points s) (bounds e froms tos codes) names e ending w walks before need₀ → ((t : ℕ) → marked before t ≡ true → ⊥) →
+      Exact (points s) (Listed (bounds e list)) d → sum_of (code_at list e) (d (to_at list e) (from_at list e)) < base →
+      FoundRound (points s) (bounds e list) names e ending w walks before need₀ → ((t : ℕ) → marked before t ≡ true → ⊥) →
       MarkedBehind count need₀ need → marked need count ≡ true → length walks' ≡ length walks →
-      Prunable s S (round_steps froms names ties walks' count e) count (marked need')
+      Prunable s S (round_steps list names ties walks' count e) count (marked need')
   round-prunable {d = d} e e< X u F none M h same =
       let to< = D.sound.to< e e< in
       let from< = D.sound.from< e e< in
       let P = ending-kept W D G ending (omega arith) (omega (arith, W.terms)) same (found_in F.way) in
-      let reached = (sum-there (get_or codes e 0) (d (get_or tos e 0) (get_or froms e 0)) (omega arith)).1 in
+      let reached = (sum-there (code_at list e) (d (to_at list e) (from_at list e)) (omega arith)).1 in
       let total = least-total X to< from< reached P.goes P.least in
       let A = marks-round P.marks F.first in
       let K = known W D (omega arith) (all-earlier W D e (omega arith)) P.goes in
-      let k = closing_walk (get_or froms e 0) (bound_named (get_or names e 0) ∷ walk_at names walks' ending) in
+      let k = closing_walk (from_at list e) (bound_named (get_or names e 0) ∷ walk_at names walks' ending) in
       prunable W D G
       (one_more W D G k h
       (by-walk (omega arith)
       (round-of W D walks' ending e e< (fits W D G (one W D G k) (before-ending names ties walks' count (k ∷ []))) P.few P.goes)
-      (under-rules (added (kind_of (get_or codes e 0)) P.total) (rw total (under _ _ d X _ _ _ from< to< (D.sound.near e e<) u))))
+      (under-rules (added (kind_of (code_at list e)) P.total) (rw total (under _ _ d X _ _ _ from< to< (D.sound.near e e<) u))))
       (λ t R. G.stays t (M.stays t (A.on t (round-in W D e (numbers_at walks' ending) e< K (round-rests R)))))
       (λ t l h. ⊎_elim (λ g. absurd (none t g)) (λ N. rests-over (in-round W D e (numbers_at walks' ending) e< K N)) (A.only t (M.only t l h))))
 
   pub path-prunable : {before need₀ : List Bool} {d : ℕ → ℕ → ℕ} {a b : ℕ} {c : ℤ} (x : ℕ) →
-      Exact (points s) (Listed (bounds listed froms tos codes)) d → Saturated s d → BrokenEntry s S d x a b c →
+      Exact (points s) (Listed (bounds listed list)) d → Saturated s d → BrokenEntry s S d x a b c →
       PathMarked ties count a b before need₀ → ((t : ℕ) → marked before t ≡ true → ⊥) →
       MarkedBehind count need₀ need → marked need count ≡ true →
       Prunable s S (path_steps names ties walks' count x) count (marked need')
@@ -101,9 +102,9 @@ module _ {s : Sheet} {S : Set} {froms tos codes names ties labels : List ℕ} {m
 
   -- a tie of the entry's terms, by walks, and then the entry
   module _ {w : List ℕ} {before need₀ : List Bool} {d : ℕ → ℕ → ℕ} {a b : ℕ} {c : ℤ} (x : ℕ)
-      (X : Exact (points s) (Listed (bounds listed froms tos codes)) d) (K : BrokenEntry s S d x a b c)
+      (X : Exact (points s) (Listed (bounds listed list)) d) (K : BrokenEntry s S d x a b c)
       (far : cell labels count a ≡ cell labels count b → ⊥)
-      (F : FoundBoth (points s) (bounds listed froms tos codes) a b names ending w walks before need₀)
+      (F : FoundBoth (points s) (bounds listed list) a b names ending w walks before need₀)
       (none : (t : ℕ) → marked before t ≡ true → ⊥) (M : MarkedBehind count need₀ need) (h : marked need count ≡ true)
       (h' : marked need (count + 1) ≡ true) (same : length walks' ≡ length walks) where
     abbrev there : List Bound
@@ -137,14 +138,14 @@ module _ {s : Sheet} {S : Set} {froms tos codes names ties labels : List ℕ} {m
     few = omega (arith, W.terms)
 
     -- its two walks
-    way : InPlace (points s) (bounds listed froms tos codes) a b names ending walks' before F.need-between
+    way : InPlace (points s) (bounds listed list) a b names ending walks' before F.need-between
     way = way-there W D G F few same
 
-    way_back : InPlace (points s) (bounds listed froms tos codes) b a names (ending + 1) walks' F.need-between need₀
+    way_back : InPlace (points s) (bounds listed list) b a names (ending + 1) walks' F.need-between need₀
     way_back = way-behind W D G F few same
 
     -- over listed bounds
-    listed-all : {i j : ℕ} {t : Kind} {es : List ℕ} → Goes (bounds listed froms tos codes) i j t es → (b : ℕ) → In b es → b < listed
+    listed-all : {i j : ℕ} {t : Kind} {es : List ℕ} → Goes (bounds listed list) i j t es → (b : ℕ) → In b es → b < listed
     listed-all = known W D (omega arith) (all-earlier W D listed (omega arith))
 
     joining-right : TieRight s S steps count joining

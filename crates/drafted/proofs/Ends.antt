@@ -12,6 +12,7 @@ use Rattle.order.specs.First.{Set, marked}
 use Rattle.sheet.specs.Sheet.{Sheet, WellFormed}
 use Rattle.sheet.proofs.Decode.{length-each, get_or-each}
 use Rattle.layers.specs.Bounds.{Bounds}
+use Rattle.layers.specs.declared.Bound.{Bound}
 use Rattle.reasons.specs.Step.{Step, closing_entry, step_at}
 use Rattle.reasons.specs.Rules.{TieRight, Closing}
 use Rattle.reasons.specs.Reason.{Rests, Gathered as Gathers}
@@ -44,9 +45,9 @@ module _ (names ties walks : List ℕ) (count : ℕ) where
   pub length-ending : (ending : List Step) → length (steps_of names ties walks count ++ ending) ≡ count + length ending
   length-ending ending = simp (length-append, length-each)
 
-module _ {s : Sheet} {S : Set} {froms tos codes names ties labels : List ℕ} {m listed count : ℕ} (W : WellFormed s)
-    (D : Drafted s S froms tos codes names ties labels m listed count) {walks walks' : List ℕ} {need need' : List Bool}
-    (G : Gathered s froms tos codes names ties count walks walks' need need') where
+module _ {s : Sheet} {S : Set} {list : List Bound} {names ties labels : List ℕ} {m listed count : ℕ} (W : WellFormed s)
+    (D : Drafted s S list names ties labels m listed count) {walks walks' : List ℕ} {need need' : List Bool}
+    (G : Gathered s list names ties count walks walks' need need') where
   -- what an ending adds, from step `count` on
   pub record Ends (steps : List Step) (last : ℕ) : Type 0 where
     pub is : (t : ℕ) → t < count → step_at steps t ≡ step_of names ties walks' t

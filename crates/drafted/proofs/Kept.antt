@@ -15,6 +15,7 @@ use lib.ListN.{get_or}
 use native.Mathlib.Omega.{arith}
 use Rattle.order.specs.First.{Set, marked}
 use Rattle.sheet.specs.Sheet.{Term, apply, apply2, Sheet, term_at, entry_at, WellFormed}
+use Rattle.layers.specs.declared.Bound.{Bound as ListedBound}
 use Rattle.meaning.specs.Meaning.{SameInput, one, two}
 use Rattle.reasons.specs.Step.{Bound, Step, by_walks, by_functions, closing_walk, closing_entry, step_at, walks_of}
 use Rattle.reasons.specs.Rules.{Point, Ties, Tied, Apart, Level, TieWithin, TieRight}
@@ -85,9 +86,9 @@ module _ (p q : List Bound) {t : ℕ} where
       (λ m. g (record { bound = T.bound; there = m; of-tie = T.of-tie }))
       (either p T.there)
 
-module _ {s : Sheet} {S : Set} {froms tos codes names ties labels : List ℕ} {m listed count : ℕ} (W : WellFormed s)
-    (D : Drafted s S froms tos codes names ties labels m listed count) {walks walks' : List ℕ} {need need' : List Bool}
-    (G : Gathered s froms tos codes names ties count walks walks' need need') (steps : List Step)
+module _ {s : Sheet} {S : Set} {list : List ListedBound} {names ties labels : List ℕ} {m listed count : ℕ} (W : WellFormed s)
+    (D : Drafted s S list names ties labels m listed count) {walks walks' : List ℕ} {need need' : List Bool}
+    (G : Gathered s list names ties count walks walks' need need') (steps : List Step)
     (is : (t : ℕ) → t < count → step_at steps t ≡ step_of names ties walks' t) where
   pub fits : Fits ties count steps
   fits = record { at = λ t l. rw (is t l) (tie-ties (how_of (get_or ties t 0)) _ _ _ _) }

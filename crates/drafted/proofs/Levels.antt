@@ -19,6 +19,7 @@ use Rattle.settled.specs.Settled.{points, Saturated}
 use Rattle.walked.specs.Borne.{Exact}
 use Rattle.walked.proofs.Found.{kind-to}
 use Rattle.layers.specs.Bounds.{bounds, Listed}
+use Rattle.layers.specs.declared.Bound.{Bound}
 use Rattle.reasons.specs.Step.{Step}
 use Rattle.reasons.specs.Rules.{Tied, TieWithin}
 use Rattle.sketch.specs.Sketch.{how_of, left, right, Fits}
@@ -32,9 +33,9 @@ pub tied-within : {N : ℕ} {d : ℕ → ℕ → ℕ} {i j : ℕ} → Closed N (
 tied-within {i = i} {j} C (pos n) h i< j< t = (omega (arith, (C.range j i j< i<).low, t.back.bound), omega arith)
 tied-within {i = i} {j} C (negsuc n) h i< j< t = (omega arith, omega (arith, (C.range i j i< j<).low, t.to.bound))
 
-module _ {s : Sheet} {S : Set} {froms tos codes names ties labels : List ℕ} {m listed count : ℕ} (W : WellFormed s)
-    (D : Drafted s S froms tos codes names ties labels m listed count) {d : ℕ → ℕ → ℕ}
-    (X : Exact (points s) (Listed (bounds listed froms tos codes)) d) (saturated : Saturated s d) where
+module _ {s : Sheet} {S : Set} {list : List Bound} {names ties labels : List ℕ} {m listed count : ℕ} (W : WellFormed s)
+    (D : Drafted s S list names ties labels m listed count) {d : ℕ → ℕ → ℕ}
+    (X : Exact (points s) (Listed (bounds listed list)) d) (saturated : Saturated s d) where
   -- the first t ties are ties of the table
   abbrev TiesTied : ℕ → Type 0
   TiesTied t = (u : ℕ) → u < t → TiedAt d (left ties u) (right ties u) (pos 0)

@@ -10,6 +10,8 @@ use Rattle.kind.specs.Kind.{Kind, kind_of}
 use Rattle.cells.specs.Cells.{cell}
 use Rattle.order.specs.First.{Set}
 use Rattle.sheet.specs.Sheet.{Sheet, count_terms, WellFormed}
+use Rattle.layers.specs.Bounds.{from_at, to_at, code_at}
+use Rattle.layers.specs.declared.Bound.{Bound as ListedBound}
 use Rattle.reasons.specs.Step.{Bound, tie, tie_back, Step}
 use Rattle.reasons.specs.Rules.{Over}
 use Rattle.reasons.specs.Rules.Over.{an-entry, entry-back, a-number, number-back, a-shift, shift_back, a-tie, tie-back}
@@ -83,8 +85,8 @@ module _ {s : Sheet} {S : Set} where
       Over s S steps n b' i' j' g' → Over s S steps n b i j g
   over-as p q r e h = rw (p, q, r, e) h
 
-module _ {s : Sheet} {S : Set} {froms tos codes names ties labels : List ℕ} {m listed count : ℕ} (W : WellFormed s)
-    (D : Drafted s S froms tos codes names ties labels m listed count) where
+module _ {s : Sheet} {S : Set} {list : List ListedBound} {names ties labels : List ℕ} {m listed count : ℕ} (W : WellFormed s)
+    (D : Drafted s S list names ties labels m listed count) where
   pub few-ties : count ≤ count_terms s
   few-ties = omega (arith, few (omega arith) D.laid.labelled)
 
@@ -99,10 +101,10 @@ module _ {s : Sheet} {S : Set} {froms tos codes names ties labels : List ℕ} {m
   number = D.laid.number
 
   module _ (k : ℕ) (l : m + 2 * k < listed) where
-    function : FunctionTie s froms tos codes (m + 2 * k)
+    function : FunctionTie s list (m + 2 * k)
     function = D.functions.tie k (omega (arith, D.functions.listed-is))
 
-    is-tie : IsTie froms tos names ties (m + 2 * k) (number k)
+    is-tie : IsTie list names ties (m + 2 * k) (number k)
     is-tie = D.laid.is-tie k l
 
     pub number-few : number k < count
@@ -186,10 +188,10 @@ module _ {s : Sheet} {S : Set} {froms tos codes names ties labels : List ℕ} {m
 
   -- what step n may go over
   pub over-bound : {steps : List Step} {e n : ℕ} (b : ℕ) → b < e → e ≤ listed → Fits ties count steps → Earlier e n →
-      Over s S steps n (bound_named (get_or names b 0)) (get_or froms b 0) (get_or tos b 0) (kind_of (get_or codes b 0))
+      Over s S steps n (bound_named (get_or names b 0)) (from_at list b) (to_at list b) (kind_of (code_at list b))
   over-bound {steps} {e} {n} b l h F earlier = go (standing m b)
     where
-      go : Standing m b → Over s S steps n (bound_named (get_or names b 0)) (get_or froms b 0) (get_or tos b 0) (kind_of (get_or codes b 0))
+      go : Standing m b → Over s S steps n (bound_named (get_or names b 0)) (from_at list b) (to_at list b) (kind_of (code_at list b))
       go (in-ledger k) = over_any (D.ledger.named b k).over
       go (there k q) =
           let k< : m + 2 * k < listed = omega arith in

@@ -10,6 +10,7 @@ use Rattle.order.specs.First.{Set, marked}
 use Rattle.sheet.specs.Sheet.{Sheet, WellFormed}
 use Rattle.settled.specs.Settled.{points}
 use Rattle.layers.specs.Bounds.{bounds}
+use Rattle.layers.specs.declared.Bound.{Bound}
 use Rattle.sketch.specs.Sketch.{how_of, ending, walks_length}
 use Rattle.needed.specs.Needed.{FoundBoth, FoundRound, Gathered}
 use Rattle.drafted.specs.Drafted.{Drafted}
@@ -18,9 +19,9 @@ use Rattle.drafted.proofs.Named.{few-ties, all-earlier, behind}
 use Rattle.drafted.proofs.Walks.{legible-of, found_in}
 use Rattle.drafted.proofs.Ends.{ending-kept, way-there, way_back}
 
-module _ {s : Sheet} {S : Set} {froms tos codes names ties labels : List ℕ} {m listed count : ℕ} (W : WellFormed s)
-    (D : Drafted s S froms tos codes names ties labels m listed count) {walks walks' : List ℕ} {need need' : List Bool}
-    (G : Gathered s froms tos codes names ties count walks walks' need need') (full : walks_length ≤ length walks') where
+module _ {s : Sheet} {S : Set} {list : List Bound} {names ties labels : List ℕ} {m listed count : ℕ} (W : WellFormed s)
+    (D : Drafted s S list names ties labels m listed count) {walks walks' : List ℕ} {need need' : List Bool}
+    (G : Gathered s list names ties count walks walks' need need') (full : walks_length ≤ length walks') where
   pub ties-legible : (t : ℕ) → t < count → marked need' t ≡ true → 0 < how_of (get_or ties t 0) →
       Legible t listed names walks' (2 * t) × Legible t listed names walks' (2 * t + 1)
   ties-legible t l kept h = go (how_of (get_or ties t 0)) refl
@@ -37,14 +38,14 @@ module _ {s : Sheet} {S : Set} {froms tos codes names ties labels : List ℕ} {m
           )
 
   pub round-legible : {w : List ℕ} {before need₀ : List Bool} (e : ℕ) → e < listed →
-      FoundRound (points s) (bounds e froms tos codes) names e ending w walks before need₀ → length walks' ≡ length walks →
+      FoundRound (points s) (bounds e list) names e ending w walks before need₀ → length walks' ≡ length walks →
       Legible count listed names walks' ending
   round-legible e e< F same =
       let P = ending-kept W D G ending (omega arith) (omega (arith, W.terms)) same (found_in F.way) in
       legible-of W D (omega arith) (all-earlier W D e (omega arith)) 256 (omega arith) P.few P.goes
 
   pub tie-legible : {a b : ℕ} {w : List ℕ} {before need₀ : List Bool}
-      (F : FoundBoth (points s) (bounds listed froms tos codes) a b names ending w walks before need₀) →
+      (F : FoundBoth (points s) (bounds listed list) a b names ending w walks before need₀) →
       length walks' ≡ length walks → Legible count listed names walks' ending × Legible count listed names walks' (ending + 1)
   tie-legible F same =
       let few : points s ≤ 129 = omega (arith, W.terms) in

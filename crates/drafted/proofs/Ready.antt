@@ -16,6 +16,8 @@ use Rattle.order.specs.First.{Set, marked}
 use Rattle.sheet.specs.Sheet.{Term, unknown, number, shift, apply, apply2, Relation, equal, unequal, at_most, less, Sheet, count_terms, count_entries, term_at, entry_at}
 use Rattle.settled.specs.Settled.{zero_level, points}
 use Rattle.layers.specs.Bounds.{bounds, Sound}
+use Rattle.layers.specs.declared.Bound.{Bound}
+use Rattle.layers.proofs.Same.{same-from, same-to, same-code}
 use Rattle.layers.proofs.Rests.{sound-fewer}
 use Rattle.ledger.specs.Ledger.{TermIn, BoundIn, Ledger}
 use Rattle.grown.proofs.Fronts.{among}
@@ -38,21 +40,21 @@ module _ {E F : ℕ → ℕ → Kind → Type 0} (A : Among E F) where
   bound-in at_most a b c h = A.more h
   bound-in less a b c h = A.more h
 
-module _ {s : Sheet} {S : Set} {froms tos codes old froms' tos' codes' names ties labels : List ℕ} {m listed count : ℕ}
-    (L : Ledger s S froms tos codes old m (count_terms s) (count_entries s)) (F : Front m froms tos codes froms' tos' codes')
-    (T : FunctionTies s froms' tos' codes' m listed) (B : Sound (points s) (bounds listed froms' tos' codes'))
-    (I : Laid s froms' tos' codes' old names ties labels m listed count) where
-  ledger : Ledger s S froms' tos' codes' names m (count_terms s) (count_entries s)
+module _ {s : Sheet} {S : Set} {list : List Bound} {old : List ℕ} {list' : List Bound} {names ties labels : List ℕ} {m listed count : ℕ}
+    (L : Ledger s S list old m (count_terms s) (count_entries s)) (F : Front m list list')
+    (T : FunctionTies s list' m listed) (B : Sound (points s) (bounds listed list'))
+    (I : Laid s list' old names ties labels m listed count) where
+  ledger : Ledger s S list' names m (count_terms s) (count_entries s)
   ledger =
       record {
         few = L.few;
         sound = sound-fewer (omega (arith, T.listed-is)) B;
-        named = λ b l. rw (I.names-kept b l, F.froms-kept b l, F.tos-kept b l, F.codes-kept b l) (L.named b l);
+        named = λ b l. let kept = F.bounds-kept b l in rw (I.names-kept b l, same-from kept, same-to kept, same-code kept) (L.named b l);
         terms = λ i l. term_in (among F) (zero_level s) i (term_at s i) (L.terms i l);
         entries = λ e l h. bound-in (among F) (entry_at s e).relation (entry_at s e).a (entry_at s e).b (entry_at s e).c (L.entries e l h);
       }
 
-  pub drafted-of : Drafted s S froms' tos' codes' names ties labels m listed count
+  pub drafted-of : Drafted s S list' names ties labels m listed count
   drafted-of =
       record {
         ledger = ledger;

@@ -21,7 +21,8 @@ use Rattle.sheet.specs.Sheet.{Sheet, WellFormed}
 use Rattle.settled.specs.Settled.{points}
 use Rattle.walked.specs.Borne.{Exact, Few}
 use Rattle.walked.proofs.Found.{no-tighter, shortest}
-use Rattle.layers.specs.Bounds.{Bounds, bounds, Listed, Goes}
+use Rattle.layers.specs.Bounds.{Bounds, bounds, from_at, to_at, code_at, Listed, Goes}
+use Rattle.layers.specs.declared.Bound.{Bound as ListedBound}
 use Rattle.layers.specs.Bounds.Goes.{stop, step}
 use Rattle.layers.proofs.Rests.{goes-walk}
 use Rattle.reasons.specs.Step.{Bound, Step}
@@ -109,8 +110,8 @@ unfolding named
 length-named names [] = refl
 length-named names (e ∷ es) = ap suc (length-named names es)
 
-module _ {s : Sheet} {S : Set} {froms tos codes names ties labels : List ℕ} {m listed count : ℕ} (W : WellFormed s)
-    (D : Drafted s S froms tos codes names ties labels m listed count) where
+module _ {s : Sheet} {S : Set} {list : List ListedBound} {names ties labels : List ℕ} {m listed count : ℕ} (W : WellFormed s)
+    (D : Drafted s S list names ties labels m listed count) where
   -- the ties that a walk goes over are those that its numbers name
   abbrev Known : List ℕ → Type 0
   Known es = (b : ℕ) → In b es → b < listed
@@ -141,17 +142,17 @@ module _ {s : Sheet} {S : Set} {froms tos codes names ties labels : List ℕ} {m
 
   -- a walk over the first e bounds, the ties among which are earlier than n
   module _ {e n : ℕ} (h : e ≤ listed) (earlier : Earlier W D e n) where
-    pub known : {i j : ℕ} {t : Kind} {es : List ℕ} → Goes (bounds e froms tos codes) i j t es → Known es
+    pub known : {i j : ℕ} {t : Kind} {es : List ℕ} → Goes (bounds e list) i j t es → Known es
     known w b p = omega (arith, goes-below w p)
 
     module _ {steps : List Step} (F : Fits ties count steps) where
-      chain-of : {i j : ℕ} {t : Kind} {es : List ℕ} → Goes (bounds e froms tos codes) i j t es → Chain s S steps n (named names es) i j t
+      chain-of : {i j : ℕ} {t : Kind} {es : List ℕ} → Goes (bounds e list) i j t es → Chain s S steps n (named names es) i j t
       unfolding named
       chain-of stop = ended
       chain-of (step b l w) = further (over-bound W D b l h F earlier) (chain-of w)
 
       pub walk_of : {i j : ℕ} {t : Kind} (walks : List ℕ) (at : ℕ) → get_or walks (at * place) 0 < points s →
-          Goes (bounds e froms tos codes) i j t (numbers_at walks at) → Walk s S steps n (named names (numbers_at walks at)) i j t
+          Goes (bounds e list) i j t (numbers_at walks at) → Walk s S steps n (named names (numbers_at walks at)) i j t
       walk_of walks at l w =
           record {
             chain = chain-of w;
@@ -159,7 +160,7 @@ module _ {s : Sheet} {S : Set} {froms tos codes names ties labels : List ℕ} {m
           }
 
     pub legible-of : {i j : ℕ} {t : Kind} {walks : List ℕ} (at : ℕ) → (at + 1) * place ≤ length walks → get_or walks (at * place) 0 < points s →
-        Goes (bounds e froms tos codes) i j t (numbers_at walks at) → Legible n listed names walks at
+        Goes (bounds e list) i j t (numbers_at walks at) → Legible n listed names walks at
     legible-of {walks = walks} at full l w =
         record {
           short = omega (arith, W.terms);
@@ -176,8 +177,8 @@ module _ {s : Sheet} {S : Set} {froms tos codes names ties labels : List ℕ} {m
 
   -- the walk with bound e in front
   pub round-of : {steps : List Step} {j : ℕ} {t : Kind} (walks : List ℕ) (at e : ℕ) → e < listed → Fits ties count steps →
-      get_or walks (at * place) 0 < points s → Goes (bounds e froms tos codes) (get_or tos e 0) j t (numbers_at walks at) →
-      Walk s S steps count (bound_named (get_or names e 0) ∷ named names (numbers_at walks at)) (get_or froms e 0) j (added (kind_of (get_or codes e 0)) t)
+      get_or walks (at * place) 0 < points s → Goes (bounds e list) (to_at list e) j t (numbers_at walks at) →
+      Walk s S steps count (bound_named (get_or names e 0) ∷ named names (numbers_at walks at)) (from_at list e) j (added (kind_of (code_at list e)) t)
   round-of walks at e l F h w =
       record {
         chain =

@@ -6,13 +6,15 @@ use Rattle.closure.specs.Closed.{TiedAt}
 use Rattle.order.specs.First.{Set, marked}
 use Rattle.sheet.specs.Limits.{max_terms}
 use Rattle.sheet.specs.Sheet.{unequal, Sheet, count_entries, entry_at}
+use Rattle.layers.specs.Bounds.{from_at}
+use Rattle.layers.specs.declared.Bound.{Bound}
 use Rattle.reasons.specs.Step.{Step, by_walks, closing_walk, closing_entry}
 use Rattle.sketch.specs.Sketch.{bound_named, place, ending, walk_at, steps_of}
 
 -- bound e closes a walk under zero
-abbrev pub round_steps : (froms names ties walks : List ℕ) (count e : ℕ) → List Step
-round_steps froms names ties walks count e =
-    steps_of names ties walks count ++ closing_walk (get_or froms e 0) (bound_named (get_or names e 0) ∷ walk_at names walks ending) ∷ []
+abbrev pub round_steps : (list : List Bound) (names ties walks : List ℕ) (count e : ℕ) → List Step
+round_steps list names ties walks count e =
+    steps_of names ties walks count ++ closing_walk (from_at list e) (bound_named (get_or names e 0) ∷ walk_at names walks ending) ∷ []
 
 -- a ≠ entry closes, on terms that the ties have in one group
 abbrev pub path_steps : (names ties walks : List ℕ) (count x : ℕ) → List Step

@@ -11,69 +11,53 @@ use Rattle.closure.specs.Walk.{Among}
 use Rattle.walked.specs.Borne.{Exact}
 use Rattle.walked.proofs.Bearing.{same-bounds}
 use Rattle.layers.specs.Bounds.{bounds, Listed}
+use Rattle.layers.specs.declared.Bound.{Bound}
+use Rattle.layers.proofs.Same.{same-from, same-to, same-code}
 use Rattle.jotted.specs.Jotted.{Both}
 use Rattle.grown.specs.Grown.{FunctionTie, Front}
 
-pub front-all : {m : ℕ} {froms tos codes : List ℕ} → Front m froms tos codes froms tos codes
-front-all = record { froms-kept = λ k l. refl; tos-kept = λ k l. refl; codes-kept = λ k l. refl }
+pub front-all : {m : ℕ} {list : List Bound} → Front m list list
+front-all = record { bounds-kept = λ k l. refl }
 
 -- nothing before the place where two bounds are put
-pub front-both : {m a b : ℕ} {c : ℤ} {froms tos codes froms' tos' codes' : List ℕ} → Both froms tos codes froms' tos' codes' m a b c
-    → Front m froms tos codes froms' tos' codes'
-front-both B =
-    record {
-      froms-kept = λ k l. B.back.froms-kept k (λ e. omega arith) ∙ B.there.froms-kept k (λ e. omega arith);
-      tos-kept = λ k l. B.back.tos-kept k (λ e. omega arith) ∙ B.there.tos-kept k (λ e. omega arith);
-      codes-kept = λ k l. B.back.codes-kept k (λ e. omega arith) ∙ B.there.codes-kept k (λ e. omega arith);
-    }
+pub front-both : {m a b : ℕ} {c : ℤ} {list list' : List Bound} → Both list list' m a b c
+    → Front m list list'
+front-both B = record { bounds-kept = λ k l. B.back.bounds-kept k (λ e. omega arith) ∙ B.there.bounds-kept k (λ e. omega arith) }
 
-module _ {m : ℕ} {froms tos codes froms' tos' codes' : List ℕ} (F : Front m froms tos codes froms' tos' codes') where
-  pub front_less : {k : ℕ} → k ≤ m → Front k froms tos codes froms' tos' codes'
-  front_less h =
-      record {
-        froms-kept = λ k l. F.froms-kept k (omega arith);
-        tos-kept = λ k l. F.tos-kept k (omega arith);
-        codes-kept = λ k l. F.codes-kept k (omega arith);
-      }
+module _ {m : ℕ} {list list' : List Bound} (F : Front m list list') where
+  pub front_less : {k : ℕ} → k ≤ m → Front k list list'
+  front_less h = record { bounds-kept = λ k l. F.bounds-kept k (omega arith) }
 
-  pub front-on : {froms'' tos'' codes'' : List ℕ} → Front m froms' tos' codes' froms'' tos'' codes'' → Front m froms tos codes froms'' tos'' codes''
-  front-on G =
-      record {
-        froms-kept = λ k l. G.froms-kept k l ∙ F.froms-kept k l;
-        tos-kept = λ k l. G.tos-kept k l ∙ F.tos-kept k l;
-        codes-kept = λ k l. G.codes-kept k l ∙ F.codes-kept k l;
-      }
+  pub front-on : {list'' : List Bound} → Front m list' list'' → Front m list list''
+  front-on G = record { bounds-kept = λ k l. G.bounds-kept k l ∙ F.bounds-kept k l }
 
-  front-back : Front m froms' tos' codes' froms tos codes
-  front-back =
-      record {
-        froms-kept = λ k l. sym (F.froms-kept k l);
-        tos-kept = λ k l. sym (F.tos-kept k l);
-        codes-kept = λ k l. sym (F.codes-kept k l);
-      }
+  front-back : Front m list' list
+  front-back = record { bounds-kept = λ k l. sym (F.bounds-kept k l) }
 
-  pub among : Among (Listed (bounds m froms tos codes)) (Listed (bounds m froms' tos' codes'))
+  pub among : Among (Listed (bounds m list)) (Listed (bounds m list'))
   among =
       record {
         more = λ e.
             record {
               number = e.number;
               there = e.there;
-              starts = F.froms-kept _ e.there ∙ e.starts;
-              ends = F.tos-kept _ e.there ∙ e.ends;
-              gap = ap kind_of (F.codes-kept _ e.there) ∙ e.gap;
+              starts = same-from (F.bounds-kept _ e.there) ∙ e.starts;
+              ends = same-to (F.bounds-kept _ e.there) ∙ e.ends;
+              gap = ap kind_of (same-code (F.bounds-kept _ e.there)) ∙ e.gap;
             };
       }
 
-pub exact-front : {n m : ℕ} {froms tos codes froms' tos' codes' : List ℕ} {d : ℕ → ℕ → ℕ} → Front m froms tos codes froms' tos' codes'
-    → Exact n (Listed (bounds m froms tos codes)) d → Exact n (Listed (bounds m froms' tos' codes')) d
+pub exact-front : {n m : ℕ} {list list' : List Bound} {d : ℕ → ℕ → ℕ} → Front m list list'
+    → Exact n (Listed (bounds m list)) d → Exact n (Listed (bounds m list')) d
 exact-front F X = same-bounds (among F) (among (front-back F)) X
 
-pub tie-front : {s : Sheet} {e : ℕ} {froms tos codes froms' tos' codes' : List ℕ} → Front (e + 2) froms tos codes froms' tos' codes'
-    → FunctionTie s froms tos codes e → FunctionTie s froms' tos' codes' e
+pub tie-front : {s : Sheet} {e : ℕ} {list list' : List Bound} → Front (e + 2) list list'
+    → FunctionTie s list e → FunctionTie s list' e
 tie-front {e = e} F T =
-    let f = F.froms-kept e (omega arith) in
-    let t = F.tos-kept e (omega arith) in
+    let kept = F.bounds-kept e (omega arith) in
+    let behind = F.bounds-kept (e + 1) (omega arith) in
+    let f = same-from kept in
+    let t = same-to kept in
     record {
       d = T.d;
       exact = exact-front (front_less F (omega arith)) T.exact;
@@ -81,8 +65,8 @@ tie-front {e = e} F T =
       right< = rw t T.right<;
       joined = rw (f, t) T.joined;
       untied = rw (f, t) T.untied;
-      gap = ap kind_of (F.codes-kept e (omega arith)) ∙ T.gap;
-      back_from = F.froms-kept (e + 1) (omega arith) ∙ T.back_from ∙ sym t;
-      back_to = F.tos-kept (e + 1) (omega arith) ∙ T.back_to ∙ sym f;
-      back-gap = ap kind_of (F.codes-kept (e + 1) (omega arith)) ∙ T.back-gap;
+      gap = ap kind_of (same-code kept) ∙ T.gap;
+      back_from = same-from behind ∙ T.back_from ∙ sym t;
+      back_to = same-to behind ∙ T.back_to ∙ sym f;
+      back-gap = ap kind_of (same-code behind) ∙ T.back-gap;
     }

@@ -14,6 +14,7 @@ ghost use Rattle.layers.specs.Bounds.{bounds, Sound, Listed};
 ghost use Rattle.jotted.specs.Jotted.{most};
 ghost use Rattle.grown.specs.Grown.{Grew, Front};
 
+use layers::Bound;
 use sheet::Biased;
 
 // How many bounds are listed, and how many of them the table has: fewer where the next one closes a walk under zero.
@@ -24,52 +25,38 @@ pub struct Grown {
 }
 
 // Begins a table anew, puts the m listed bounds in, and lists and puts in ties of functions behind them.
-pub fn grow(
-    sheet: &[u8],
-    d: &mut [u32],
-    froms: &mut [u8],
-    tos: &mut [u8],
-    codes: &mut [u32],
-    m: usize,
-) -> Grown
+pub fn grow(sheet: &[u8], d: &mut [u32], list: &mut [Bound], m: usize) -> Grown
     requires sized { Sized sheet.now × WellFormed (sheet_of sheet.now) × (length d.old ≡ cells) }
-    requires froms_len { (length froms.old ≡ most) × (length tos.old ≡ most) × (length codes.old ≡ most) × (m ≤ 2 * max_terms + 2 * max_entries) }
-    requires sound { Sound (points (sheet_of sheet.now)) (bounds m froms.old tos.old codes.old) }
-    ensures grew { Grew (sheet_of sheet.now) froms.new tos.new codes.new m (cell d.new) result.listed result.put }
-    ensures front { Front m froms.old tos.old codes.old froms.new tos.new codes.new }
+    requires list_len { (length list.old ≡ most) × (m ≤ 2 * max_terms + 2 * max_entries) }
+    requires sound { Sound (points (sheet_of sheet.now)) (bounds m list.old) }
+    ensures grew { Grew (sheet_of sheet.now) list.new m (cell d.new) result.listed result.put }
+    ensures front { Front m list.old list.new }
     ensures kept { Kept (points (sheet_of sheet.now)) d.old d.new }
 {
     let n = reading::count_terms(sheet) + 1;
     table::start(d, n);
-    let put = rests::put(d, n, froms, tos, codes, 0, m);
+    let put = rests::put(d, n, list, 0, m);
     if put < m {
         return Grown { listed: m, put };
     }
-    tie_all(sheet, d, froms, tos, codes, m)
+    tie_all(sheet, d, list, m)
 }
 
 // With the first m bounds in the table: ties applications of the same input.
-fn tie_all(
-    sheet: &[u8],
-    d: &mut [u32],
-    froms: &mut [u8],
-    tos: &mut [u8],
-    codes: &mut [u32],
-    m: usize,
-) -> Grown
+fn tie_all(sheet: &[u8], d: &mut [u32], list: &mut [Bound], m: usize) -> Grown
     requires sized { Sized sheet.now × WellFormed (sheet_of sheet.now) × (length d.old ≡ cells) }
-    requires froms_len { (length froms.old ≡ most) × (length tos.old ≡ most) × (length codes.old ≡ most) × (m ≤ 2 * max_terms + 2 * max_entries) }
-    requires sound { Sound (points (sheet_of sheet.now)) (bounds m froms.old tos.old codes.old) }
-    requires exact { Exact (points (sheet_of sheet.now)) (Listed (bounds m froms.old tos.old codes.old)) (cell d.old) }
-    ensures grew { Grew (sheet_of sheet.now) froms.new tos.new codes.new m (cell d.new) result.listed result.put }
-    ensures front { Front m froms.old tos.old codes.old froms.new tos.new codes.new }
+    requires list_len { (length list.old ≡ most) × (m ≤ 2 * max_terms + 2 * max_entries) }
+    requires sound { Sound (points (sheet_of sheet.now)) (bounds m list.old) }
+    requires exact { Exact (points (sheet_of sheet.now)) (Listed (bounds m list.old)) (cell d.old) }
+    ensures grew { Grew (sheet_of sheet.now) list.new m (cell d.new) result.listed result.put }
+    ensures front { Front m list.old list.new }
     ensures kept { Kept (points (sheet_of sheet.now)) d.old d.new }
 {
     let n = reading::count_terms(sheet) + 1;
     let mut listed = m;
     while let Some((i, j)) = matched::first(sheet, d) {
-        jotted::both(froms, tos, codes, listed, j.0, i.0, Biased::ZERO);
-        let put = rests::put(d, n, froms, tos, codes, listed, listed + 2);
+        jotted::both(list, listed, j.0, i.0, Biased::ZERO);
+        let put = rests::put(d, n, list, listed, listed + 2);
         listed += 2;
         if put < listed {
             return Grown { listed, put };

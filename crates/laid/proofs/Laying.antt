@@ -12,6 +12,7 @@ use Rattle.sheet.specs.Sheet.{Sheet}
 use Rattle.settled.specs.Settled.{points}
 use Rattle.walked.specs.Borne.{Exact}
 use Rattle.layers.specs.Bounds.{bounds, Listed}
+use Rattle.layers.specs.declared.Bound.{Bound}
 use Rattle.sketch.specs.Sketch.{left, right}
 use Rattle.forest.specs.Labels.{Begun}
 use Rattle.forest.proofs.Rows.{labelled-begun}
@@ -19,15 +20,15 @@ use Rattle.grown.specs.Grown.{FunctionTie, FunctionTies}
 use Rattle.laid.specs.Laid.{Laid}
 
 -- what is laid up to bound e, and that each tie is one of every table over the first e bounds
-pub record Laying (s : Sheet) (froms tos codes old names ties labels : List ℕ) (m e t : ℕ) : Type 0 where
+pub record Laying (s : Sheet) (list : List Bound) (old names ties labels : List ℕ) (m e t : ℕ) : Type 0 where
   pub before : ℕ
   pub e-is : e ≡ m + 2 * before
-  pub laid : Laid s froms tos codes old names ties labels m e t
-  pub tied : (u : ℕ) → u < t → (d : ℕ → ℕ → ℕ) → Exact (points s) (Listed (bounds e froms tos codes)) d
+  pub laid : Laid s list old names ties labels m e t
+  pub tied : (u : ℕ) → u < t → (d : ℕ → ℕ → ℕ) → Exact (points s) (Listed (bounds e list)) d
       → TiedAt d (left ties u) (right ties u) (pos 0)
 
-pub none_yet : {n : ℕ} {s : Sheet} {froms tos codes names ties labels labels' : List ℕ} {m : ℕ} → n ≡ points s → Begun n labels labels'
-    → Laying s froms tos codes names names ties labels' m m 0
+pub none_yet : {n : ℕ} {s : Sheet} {list : List Bound} {names ties labels labels' : List ℕ} {m : ℕ} → n ≡ points s → Begun n labels labels'
+    → Laying s list names names ties labels' m m 0
 none_yet same B =
     record {
       before = 0;
@@ -61,10 +62,10 @@ named names {e} {t} l =
     }
 
 -- the tie of functions at bound e, and that its other bound is listed too
-module _ {s : Sheet} {froms tos codes old names ties labels : List ℕ} {m e t listed : ℕ} (L : Laying s froms tos codes old names ties labels m e t)
-    (T : FunctionTies s froms tos codes m listed) (l : e < listed) where
+module _ {s : Sheet} {list : List Bound} {old names ties labels : List ℕ} {m e t listed : ℕ} (L : Laying s list old names ties labels m e t)
+    (T : FunctionTies s list m listed) (l : e < listed) where
   pub both-listed : e + 2 ≤ listed
   both-listed = omega (arith, L.e-is, T.listed-is)
 
-  pub function-tie : FunctionTie s froms tos codes e
+  pub function-tie : FunctionTie s list e
   function-tie = rw L.e-is (T.tie L.before (omega (arith, L.e-is, T.listed-is)))

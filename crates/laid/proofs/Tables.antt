@@ -20,11 +20,12 @@ use Rattle.ties.proofs.Zero.{tied_back, tied_on, tied-self}
 use Rattle.walked.specs.Borne.{Exact}
 use Rattle.walked.proofs.Found.{no-tighter}
 use Rattle.layers.specs.Bounds.{bounds, Listed}
+use Rattle.layers.specs.declared.Bound.{Bound}
 use Rattle.sketch.specs.Sketch.{left, right}
 use Rattle.forest.specs.Labels.{Labelled}
 use Rattle.forest.proofs.Rows.{relabelled-joined, labelled-less, labelled-next}
 
-pub listed_more : {froms tos codes : List ℕ} {e f : ℕ} → e ≤ f → Among (Listed (bounds e froms tos codes)) (Listed (bounds f froms tos codes))
+pub listed_more : {list : List Bound} {e f : ℕ} → e ≤ f → Among (Listed (bounds e list)) (Listed (bounds f list))
 listed_more h = record { more = λ l. record { number = l.number; there = omega (arith, l.there); starts = l.starts; ends = l.ends; gap = l.gap } }
 
 -- over more bounds, each cell is at least as tight

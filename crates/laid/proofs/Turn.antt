@@ -15,7 +15,8 @@ use Rattle.meaning.specs.Meaning.{SameInput}
 use Rattle.meaning.proofs.Meaning.{same-input-below}
 use Rattle.settled.specs.Settled.{points}
 use Rattle.walked.specs.Borne.{Exact}
-use Rattle.layers.specs.Bounds.{bounds, Listed}
+use Rattle.layers.specs.Bounds.{bounds, from_at, to_at, Listed}
+use Rattle.layers.specs.declared.Bound.{Bound}
 use Rattle.sketch.specs.Sketch.{how_of, left_of, right_of, left, right}
 use Rattle.forest.proofs.Few.{few-more}
 use Rattle.grown.specs.Grown.{FunctionTie, FunctionTies}
@@ -40,13 +41,13 @@ functions-by {s} {a = a} {b} row wf R a< b< g I =
     }
 
 -- the arguments are tied
-module _ {s : Sheet} {froms tos codes old names ties labels : List ℕ} {m e t : ℕ} (L : Laying s froms tos codes old names ties labels m e t)
-    (F : FunctionTie s froms tos codes e) {ties' labels' : List ℕ} {t' : ℕ}
-    (A : ArgumentsTied s (points s) (get_or froms e 0) (get_or tos e 0) e t ties labels ties' labels' t') where
-  from< : get_or froms e 0 < points s
+module _ {s : Sheet} {list : List Bound} {old names ties labels : List ℕ} {m e t : ℕ} (L : Laying s list old names ties labels m e t)
+    (F : FunctionTie s list e) {ties' labels' : List ℕ} {t' : ℕ}
+    (A : ArgumentsTied s (points s) (from_at list e) (to_at list e) e t ties labels ties' labels' t') where
+  from< : from_at list e < points s
   from< = omega (arith, F.left<)
 
-  to< : get_or tos e 0 < points s
+  to< : to_at list e < points s
   to< = omega (arith, F.right<)
 
   -- all ties so far are ties of the table over the first e bounds, so the next one isn't needless
@@ -55,12 +56,12 @@ module _ {s : Sheet} {froms tos codes old names ties labels : List ℕ} {m e t :
       parts (λ u. TiedAt F.d (left ties' u) (right ties' u) (pos 0)) t (λ u l. rw (A.longer.ties-kept u l) (L.tied u l F.d F.exact))
       (λ u l m. (A.longer.of u l m).tied F.d F.joined)
 
-  apart : cell labels' t' (get_or froms e 0) ≡ cell labels' t' (get_or tos e 0) → ⊥
+  apart : cell labels' t' (from_at list e) ≡ cell labels' t' (to_at list e) → ⊥
   apart h = F.untied (group-tied F.exact.table.closed t' A.longer.labelled tied_then _ _ from< to< h)
 
   -- the tie of functions, behind
   module _ {names' ties'' labels'' : List ℕ} {r : ℕ} (wf : WellFormed s) (N : Named names names' e t') (one : r ≡ t' + 1)
-      (B : Longer (points s) 0 (Are (get_or froms e 0) (get_or tos e 0)) t' ties' labels' ties'' labels'' r) where
+      (B : Longer (points s) 0 (Are (from_at list e) (to_at list e)) t' ties' labels' ties'' labels'' r) where
     number : ℕ → ℕ
     number k = get_or names' (m + 2 * k) 0 - 1024
 
@@ -81,7 +82,7 @@ module _ {s : Sheet} {froms tos codes old names ties labels : List ℕ} {m e t :
     how-is : how_of (get_or ties'' t' 0) ≡ 0
     how-is = B.how-is t' (omega arith) (omega arith)
 
-    are : Are (get_or froms e 0) (get_or tos e 0) (left ties'' t') (right ties'' t')
+    are : Are (from_at list e) (to_at list e) (left ties'' t') (right ties'' t')
     are = B.of t' (omega arith) (omega arith)
 
     -- what holds of the ties of functions laid before and of this one holds of all up to it
@@ -92,10 +93,10 @@ module _ {s : Sheet} {froms tos codes old names ties labels : List ℕ} {m e t :
     all : (P : ℕ → Type 0) → ((u : ℕ) → u < t → P u) → ((u : ℕ) → t ≤ u → u < t' → P u) → P t' → (u : ℕ) → u < r → P u
     all P f g p u l = below_more P t' (parts P t f g) p u (omega arith)
 
-    is-tie : (k : ℕ) → m + 2 * k < e + 2 → IsTie froms tos names' ties'' (m + 2 * k) (number k)
-    is-tie = each (λ k. IsTie froms tos names' ties'' (m + 2 * k) (number k)) old-tie new-tie
+    is-tie : (k : ℕ) → m + 2 * k < e + 2 → IsTie list names' ties'' (m + 2 * k) (number k)
+    is-tie = each (λ k. IsTie list names' ties'' (m + 2 * k) (number k)) old-tie new-tie
       where
-        old-tie : (k : ℕ) → m + 2 * k < e → IsTie froms tos names' ties'' (m + 2 * k) (number k)
+        old-tie : (k : ℕ) → m + 2 * k < e → IsTie list names' ties'' (m + 2 * k) (number k)
         old-tie k l =
             let I = L.laid.is-tie k l in
             let k< = kept (L.laid.number k) (L.laid.number< k l) in
@@ -108,7 +109,7 @@ module _ {s : Sheet} {froms tos codes old names ties labels : List ℕ} {m e t :
               right_is = ap right_of k< ∙ I.right_is;
             })
 
-        new-tie : IsTie froms tos names' ties'' (m + 2 * L.before) (number L.before)
+        new-tie : IsTie list names' ties'' (m + 2 * L.before) (number L.before)
         new-tie =
             rw (own-number, sym L.e-is)
             (record { there = N.there; back = N.back; functions = how-is; left_is = are.left_is; right_is = are.right_is })
@@ -126,12 +127,12 @@ module _ {s : Sheet} {froms tos codes old names ties labels : List ℕ} {m e t :
             (λ i. rows-kept u i (omega arith)) O.arguments
 
     abbrev Walks : ℕ → ℕ → Type 0
-    Walks u f = (f < e + 2) × ByWalks s froms tos codes ties'' number m u f
+    Walks u f = (f < e + 2) × ByWalks s list ties'' number m u f
 
     by-walks : (u f : ℕ) → u < r → how_of (get_or ties'' u 0) ≡ suc f → Walks u f
     by-walks u f l = all (λ u. how_of (get_or ties'' u 0) ≡ suc f → Walks u f) old-one new-one (λ h. absurd (omega (arith, how-is))) u l
       where
-        carried : (u : ℕ) → get_or ties'' u 0 ≡ get_or ties u 0 → f < e → ByWalks s froms tos codes ties L.laid.number m u f → Walks u f
+        carried : (u : ℕ) → get_or ties'' u 0 ≡ get_or ties u 0 → f < e → ByWalks s list ties L.laid.number m u f → Walks u f
         carried u k l W = (
           omega arith,
           record {
@@ -167,7 +168,7 @@ module _ {s : Sheet} {froms tos codes old names ties labels : List ℕ} {m e t :
     abbrev TiedIn : (ℕ → ℕ → ℕ) → ℕ → Type 0
     TiedIn d u = TiedAt d (left ties'' u) (right ties'' u) (pos 0)
 
-    tied : (u : ℕ) → u < r → (d : ℕ → ℕ → ℕ) → Exact (points s) (Listed (bounds (e + 2) froms tos codes)) d → TiedIn d u
+    tied : (u : ℕ) → u < r → (d : ℕ → ℕ → ℕ) → Exact (points s) (Listed (bounds (e + 2) list)) d → TiedIn d u
     tied u l d X = below_more (TiedIn d) t' old-one new-one u (omega arith)
       where
         old-one : (u : ℕ) → u < t' → TiedIn d u
@@ -181,7 +182,7 @@ module _ {s : Sheet} {froms tos codes old names ties labels : List ℕ} {m e t :
             (tied-zero X (record { number = e; there = omega arith; starts = refl; ends = refl; gap = F.gap })
             (record { number = e + 1; there = omega arith; starts = F.back_from; ends = F.back_to; gap = F.back-gap }))
 
-    one_more : Laying s froms tos codes old names' ties'' labels'' m (e + 2) r
+    one_more : Laying s list old names' ties'' labels'' m (e + 2) r
     one_more =
         record {
           before = L.before + 1;
@@ -201,21 +202,21 @@ module _ {s : Sheet} {froms tos codes old names ties labels : List ℕ} {m e t :
         }
 
 -- one turn, over n points, where bound e goes from i to j
-module _ {n i j : ℕ} {s : Sheet} {froms tos codes old names ties labels : List ℕ} {m e t listed : ℕ} (wf : WellFormed s) (same : n ≡ points s)
-    (L : Laying s froms tos codes old names ties labels m e t) (T : FunctionTies s froms tos codes m listed) (l : e < listed)
-    (i-is : i ≡ get_or froms e 0) (j-is : j ≡ get_or tos e 0) {ties' labels' : List ℕ} {t' : ℕ}
+module _ {n i j : ℕ} {s : Sheet} {list : List Bound} {old names ties labels : List ℕ} {m e t listed : ℕ} (wf : WellFormed s) (same : n ≡ points s)
+    (L : Laying s list old names ties labels m e t) (T : FunctionTies s list m listed) (l : e < listed)
+    (i-is : i ≡ from_at list e) (j-is : j ≡ to_at list e) {ties' labels' : List ℕ} {t' : ℕ}
     (A : ArgumentsTied s n i j e t ties labels ties' labels' t') where
-  F : FunctionTie s froms tos codes e
+  F : FunctionTie s list e
   F = function-tie L T l
 
-  A' : ArgumentsTied s (points s) (get_or froms e 0) (get_or tos e 0) e t ties labels ties' labels' t'
+  A' : ArgumentsTied s (points s) (from_at list e) (to_at list e) e t ties labels ties' labels' t'
   A' = rw (same, i-is, j-is) at A
 
   pub room : t' + 1 < stride
   room = omega (arith, wf.terms, few-more A'.longer.labelled (from< L F A') (to< L F A') (apart L F A'))
 
   pub turned : {names' ties'' labels'' : List ℕ} {r : ℕ} → length ties' ≡ stride → Named names names' e t'
-      → Pushed n t' i j 0 ties' labels' ties'' labels'' r → Laying s froms tos codes old names' ties'' labels'' m (e + 2) r
+      → Pushed n t' i j 0 ties' labels' ties'' labels'' r → Laying s list old names' ties'' labels'' m (e + 2) r
   turned long N P =
       one_more L F A' wf N P.count
       (longer-one (omega (arith, wf.terms)) (omega (arith, room)) (from< L F A') (to< L F A') A'.longer.labelled (apart L F A')

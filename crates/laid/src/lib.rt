@@ -14,16 +14,14 @@ ghost use Rattle.grown.specs.Grown.{FunctionTies};
 ghost use Rattle.laid.specs.Laid.{Laid};
 ghost use Rattle.laid.specs.Longer.{Pushed, TiedUp, Alike, ArgumentsTied};
 
+use layers::Bound;
 use sheet::{Term, TermNumber};
 use sketch::{BACK, TIE};
 
 // Lays the ties of the functions that are listed from bound m on, and names these bounds by their ties' numbers; how many ties there are.
-// The bounds are lent as a whole; their gaps aren't looked at.
 pub fn lay(
     sheet: &[u8],
-    froms: &[u8],
-    tos: &[u8],
-    codes: &[u32],
+    list: &[Bound],
     names: &mut [u16],
     m: usize,
     listed: usize,
@@ -31,16 +29,16 @@ pub fn lay(
     labels: &mut [u8],
 ) -> usize
     requires sized { Sized sheet.now × WellFormed (sheet_of sheet.now) }
-    requires froms_len { (length froms.now ≡ most) × (length tos.now ≡ most) × (length names.old ≡ most) × (length ties.old ≡ stride) × (length labels.old ≡ cells) × (listed ≤ most) }
-    requires function_ties { FunctionTies (sheet_of sheet.now) froms.now tos.now codes.now m listed }
-    ensures { Laid (sheet_of sheet.now) froms.now tos.now codes.now names.old names.new ties.new labels.new m listed result }
+    requires list_len { (length list.now ≡ most) × (length names.old ≡ most) × (length ties.old ≡ stride) × (length labels.old ≡ cells) × (listed ≤ most) }
+    requires function_ties { FunctionTies (sheet_of sheet.now) list.now m listed }
+    ensures { Laid (sheet_of sheet.now) list.now names.old names.new ties.new labels.new m listed result }
 {
     let n = reading::count_terms(sheet) + 1;
     forest::start(labels, n);
     let mut t = 0;
     for e in (m..listed).step_by(2) {
-        let i = usize::from(froms[e]);
-        let j = usize::from(tos[e]);
+        let i = usize::from(list[e].from);
+        let j = usize::from(list[e].to);
         t = arguments(sheet, ties, labels, n, t, i, j, e);
         names[e] = TIE + t as u16;
         names[e + 1] = TIE + BACK + t as u16;

@@ -4,7 +4,7 @@ use Prim.Native.Nat.{ℕ, ◌≤◌, ◌<◌}
 use mathlib.Core.Path.{◌≡◌, refl, ◌∙◌}
 use mathlib.Core.List.{List, [], ◌∷◌}
 use lib.IntN.{ℤ, neg_ℤ}
-use lib.ListN.{length, get_or, take, length-take}
+use lib.ListN.{length, take, length-take}
 use native.Mathlib.Omega.{arith}
 use Rattle.kind.specs.Code.{none, base, sum_of}
 use Rattle.kind.specs.Kind.{Kind, weak, added, kind_of}
@@ -14,7 +14,8 @@ use Rattle.closure.specs.Walk.Walk.{stop as ended, step as further}
 use Rattle.closure.proofs.Order.{tight-antisym}
 use Rattle.walked.specs.Borne.{Exact, Few}
 use Rattle.walked.proofs.Found.{no-tighter, shortest, under, kind-to, kind-back}
-use Rattle.layers.specs.Bounds.{Bounds, bounds, from, to, code, Sound, Listed, Goes, Reachable, Least, Closing}
+use Rattle.layers.specs.Bounds.{Bounds, bounds, from_at, to_at, code_at, from, to, code, Sound, Listed, Goes, Reachable, Least, Closing}
+use Rattle.layers.specs.declared.Bound.{Bound}
 use Rattle.layers.specs.Bounds.Goes.{stop, step}
 
 listed : (B : Bounds) (e : ℕ) → e < B.count → Listed B (from B e) (to B e) (kind_of (code B e))
@@ -48,40 +49,38 @@ module _ (n : ℕ) (B : Bounds) (d : ℕ → ℕ → ℕ) (X : Exact n (Listed B
       let e = total-is n B d X j i j< i< t.back.there o out k L ∙ kind-back n (Listed B) d X i j c i< j< t in
       rw e at L.goes
 
--- fewer bounds of the same lists, and more
-pub sound-fewer : {n k m : ℕ} {froms tos codes : List ℕ} → k ≤ m → Sound n (bounds m froms tos codes) → Sound n (bounds k froms tos codes)
+-- fewer bounds of the same list, and more
+pub sound-fewer : {n k m : ℕ} {list : List Bound} → k ≤ m → Sound n (bounds m list) → Sound n (bounds k list)
 sound-fewer l S =
     record {
       few = omega (arith, S.few);
-      all-froms = omega (arith, S.all-froms);
-      all-tos = omega (arith, S.all-tos);
-      all_codes = omega (arith, S.all_codes);
+      all_bounds = omega (arith, S.all_bounds);
       from< = λ e e<. S.from< e (omega arith);
       to< = λ e e<. S.to< e (omega arith);
       there = λ e e<. S.there e (omega arith);
       near = λ e e<. S.near e (omega arith);
     }
 
-pub goes-more : {froms tos codes : List ℕ} {k m i j : ℕ} {t : Kind} {es : List ℕ} → k ≤ m → Goes (bounds k froms tos codes) i j t es
-    → Goes (bounds m froms tos codes) i j t es
+pub goes-more : {list : List Bound} {k m i j : ℕ} {t : Kind} {es : List ℕ} → k ≤ m → Goes (bounds k list) i j t es
+    → Goes (bounds m list) i j t es
 goes-more l stop = stop
 goes-more l (step e e< w) = step e (omega arith) (goes-more l w)
 
 -- bound r closes a walk under zero: the least walk back, with it in front
-module _ (n m r : ℕ) (froms tos codes : List ℕ) (r< : r < m) (S : Sound n (bounds m froms tos codes)) (d : ℕ → ℕ → ℕ)
-    (X : Exact n (Listed (bounds r froms tos codes)) d) (u : sum_of (get_or codes r 0) (d (get_or tos r 0) (get_or froms r 0)) < base) where
-  pub there : d (get_or tos r 0) (get_or froms r 0) < none
-  there = (sum-there (get_or codes r 0) (d (get_or tos r 0) (get_or froms r 0)) (omega arith)).1
+module _ (n m r : ℕ) (list : List Bound) (r< : r < m) (S : Sound n (bounds m list)) (d : ℕ → ℕ → ℕ)
+    (X : Exact n (Listed (bounds r list)) d) (u : sum_of (code_at list r) (d (to_at list r) (from_at list r)) < base) where
+  pub there : d (to_at list r) (from_at list r) < none
+  there = (sum-there (code_at list r) (d (to_at list r) (from_at list r)) (omega arith)).1
 
-  pub way_back : Reachable n (bounds r froms tos codes) (get_or tos r 0) (get_or froms r 0)
+  pub way_back : Reachable n (bounds r list) (to_at list r) (from_at list r)
   way_back = reachable n _ d X _ _ (S.to< r r<) (S.from< r r<) there
 
-  pub closing : (o out : List ℕ) (k : ℕ) → Least n (bounds r froms tos codes) (get_or tos r 0) (get_or froms r 0) o out k
-      → Closing n (bounds m froms tos codes) (get_or froms r 0) (r ∷ take k out)
+  pub closing : (o out : List ℕ) (k : ℕ) → Least n (bounds r list) (to_at list r) (from_at list r) o out k
+      → Closing n (bounds m list) (from_at list r) (r ∷ take k out)
   closing o out k L =
       let t = total-is n _ d X _ _ (S.to< r r<) (S.from< r r<) there o out k L in
       record {
-        total = added (kind_of (get_or codes r 0)) L.total;
+        total = added (kind_of (code_at list r)) L.total;
         goes = step r r< (goes-more (omega arith) L.goes);
         under = rw t (under n _ d X _ _ _ (S.from< r r<) (S.to< r r<) (S.near r r<) u);
         few = simp length-take (omega (arith, L.few));

@@ -1,4 +1,4 @@
--- Bounds in lists, walks over them as lists of their numbers, and which walk is the least.
+-- Bounds in a list, walks over them as lists of their numbers, and which walk is the least.
 -- Assumes nothing.
 use Rattle.std.specs.Prelude.{ℕ, ◌-◌, ◌≤◌, ◌<◌, ◌≡◌, List, [], ◌∷◌, length, get_or, take}
 use Rattle.kind.specs.Code.{none, Within}
@@ -6,32 +6,43 @@ use Rattle.kind.specs.Kind.{Kind, zero_gap, under_zero, added, kind_of}
 use Rattle.closure.specs.Walk.{Tight}
 use Rattle.closure.specs.Table as size
 use Rattle.walked.specs.Borne.{Few}
+use Rattle.layers.specs.declared.Bound.{Bound}
 
--- bound e goes from `from e` to `to e`, with the gap of `code e`
+-- what stands at a number past the list's end
+abbrev pub nowhere : Bound
+nowhere = record { from = 0; to = 0; gap = record { 0 = 0 } }
+
+-- bound e of a list goes from `from_at list e` to `to_at list e`, with the gap of `code_at list e`
+abbrev pub from_at : List Bound → ℕ → ℕ
+from_at list e = (get_or list e nowhere).from
+
+abbrev pub to_at : List Bound → ℕ → ℕ
+to_at list e = (get_or list e nowhere).to
+
+abbrev pub code_at : List Bound → ℕ → ℕ
+code_at list e = (get_or list e nowhere).gap.0
+
+-- the first bounds of a list
 pub record Bounds : Type 0 where
   pub count : ℕ
-  pub froms : List ℕ
-  pub tos : List ℕ
-  pub codes : List ℕ
+  pub list : List Bound
 
-abbrev pub bounds : ℕ → List ℕ → List ℕ → List ℕ → Bounds
-bounds m froms tos codes = record { count = m; froms = froms; tos = tos; codes = codes }
+abbrev pub bounds : ℕ → List Bound → Bounds
+bounds m list = record { count = m; list = list }
 
 abbrev pub from : Bounds → ℕ → ℕ
-from B e = get_or B.froms e 0
+from B e = from_at B.list e
 
 abbrev pub to : Bounds → ℕ → ℕ
-to B e = get_or B.tos e 0
+to B e = to_at B.list e
 
 abbrev pub code : Bounds → ℕ → ℕ
-code B e = get_or B.codes e 0
+code B e = code_at B.list e
 
 -- bounds between n points, each of a sheet's size
 pub record Sound (n : ℕ) (B : Bounds) : Type 0 where
   pub few : B.count ≤ 65535
-  pub all-froms : B.count ≤ length B.froms
-  pub all-tos : B.count ≤ length B.tos
-  pub all_codes : B.count ≤ length B.codes
+  pub all_bounds : B.count ≤ length B.list
   pub from< : (e : ℕ) → e < B.count → from B e < n
   pub to< : (e : ℕ) → e < B.count → to B e < n
   pub there : (e : ℕ) → e < B.count → code B e < none

@@ -1,11 +1,12 @@
--- Bounds in lists, each with a name: which are listed, and that each is what its name says.
+-- Bounds in a list, each with a name: which are listed, and that each is what its name says.
 -- Assumes nothing.
 use Rattle.std.specs.Prelude.{ℕ, ◌+◌, ◌*◌, ◌≤◌, ◌<◌, ◌≡◌, true, List, [], get_or, ℤ, neg_ℤ}
 use Rattle.kind.specs.Kind.{Kind, weak, strict, kind_of}
 use Rattle.order.specs.First.{Set}
 use Rattle.sheet.specs.Sheet.{Term, unknown, number, shift, apply, apply2, Relation, equal, unequal, at_most, less, Entry, Sheet, term_at, entry_at}
 use Rattle.settled.specs.Settled.{zero_level, points}
-use Rattle.layers.specs.Bounds.{bounds, Sound, Listed}
+use Rattle.layers.specs.Bounds.{bounds, from_at, to_at, code_at, Sound, Listed}
+use Rattle.layers.specs.declared.Bound.{Bound}
 use Rattle.reasons.specs.Rules.{Over}
 use Rattle.sketch.specs.Sketch.{bound_named}
 
@@ -32,9 +33,9 @@ pub record Named (s : Sheet) (S : Set) (name i j : ℕ) (g : Kind) : Type 0 wher
   pub over : Over s S [] 0 (bound_named name) i j g
 
 -- m bounds: those of the first i terms, and of the first e entries where S has them; each is what its name says
-pub record Ledger (s : Sheet) (S : Set) (froms tos codes names : List ℕ) (m i e : ℕ) : Type 0 where
+pub record Ledger (s : Sheet) (S : Set) (list : List Bound) (names : List ℕ) (m i e : ℕ) : Type 0 where
   pub few : m ≤ 2 * i + 2 * e
-  pub sound : Sound (points s) (bounds m froms tos codes)
-  pub named : (b : ℕ) → b < m → Named s S (get_or names b 0) (get_or froms b 0) (get_or tos b 0) (kind_of (get_or codes b 0))
-  pub terms : (k : ℕ) → k < i → TermIn (Listed (bounds m froms tos codes)) (zero_level s) k (term_at s k)
-  pub entries : (k : ℕ) → k < e → S k ≡ true → EntryIn (Listed (bounds m froms tos codes)) (entry_at s k)
+  pub sound : Sound (points s) (bounds m list)
+  pub named : (b : ℕ) → b < m → Named s S (get_or names b 0) (from_at list b) (to_at list b) (kind_of (code_at list b))
+  pub terms : (k : ℕ) → k < i → TermIn (Listed (bounds m list)) (zero_level s) k (term_at s k)
+  pub entries : (k : ℕ) → k < e → S k ≡ true → EntryIn (Listed (bounds m list)) (entry_at s k)

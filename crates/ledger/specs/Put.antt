@@ -1,9 +1,11 @@
--- Bounds with their names, which of them a term and an entry have, and that they are put into four lists one behind the other.
+-- Bounds with their names, which of them a term and an entry have, and that they are put into two lists one behind the other.
 -- Assumes nothing.
 use Rattle.std.specs.Prelude.{ℕ, ◌+◌, ◌<◌, ◌≡◌, List, [], ◌∷◌, length, get_or, ℤ, neg_ℤ}
 use Rattle.kind.specs.Code.{none, Within}
 use Rattle.kind.specs.Kind.{Kind, weak, strict, kind_of}
 use Rattle.closure.specs.Table.{step}
+use Rattle.layers.specs.Bounds.{nowhere, from_at, to_at, code_at}
+use Rattle.layers.specs.declared.Bound.{Bound}
 use Rattle.sheet.specs.Sheet.{Term, unknown, number, shift, apply, apply2, Relation, equal, unequal, at_most, less, Entry}
 
 -- a bound from a point to a point, with its gap and its name
@@ -38,24 +40,22 @@ abbrev pub of_entry : ℕ → Entry → List Item
 of_entry e x = of_relation x.relation x.a x.b x.c e
 
 -- the bound of a sheet's size stands at k, and bounds stand from m on
-pub record At (froms tos codes names : List ℕ) (k : ℕ) (x : Item) : Type 0 where
-  pub from_is : get_or froms k 0 ≡ x.from
-  pub to_is : get_or tos k 0 ≡ x.to
-  pub gap_is : kind_of (get_or codes k 0) ≡ x.gap
-  pub there : get_or codes k 0 < none
-  pub near : Within step (get_or codes k 0)
+pub record At (list : List Bound) (names : List ℕ) (k : ℕ) (x : Item) : Type 0 where
+  pub from_is : from_at list k ≡ x.from
+  pub to_is : to_at list k ≡ x.to
+  pub gap_is : kind_of (code_at list k) ≡ x.gap
+  pub there : code_at list k < none
+  pub near : Within step (code_at list k)
   pub name-is : get_or names k 0 ≡ x.name
 
-pub data Stand (froms tos codes names : List ℕ) : ℕ → List Item → Type 0 where
-  end : {m : ℕ} → Stand froms tos codes names m []
-  next : {m : ℕ} {x : Item} {xs : List Item} → At froms tos codes names m x → Stand froms tos codes names (m + 1) xs →
-      Stand froms tos codes names m (x ∷ xs)
+pub data Stand (list : List Bound) (names : List ℕ) : ℕ → List Item → Type 0 where
+  end : {m : ℕ} → Stand list names m []
+  next : {m : ℕ} {x : Item} {xs : List Item} → At list names m x → Stand list names (m + 1) xs →
+      Stand list names m (x ∷ xs)
 
 -- behind the first m, which are as they were, come these, and then there are r
-pub record Put (froms tos codes names froms' tos' codes' names' : List ℕ) (m : ℕ) (items : List Item) (r : ℕ) : Type 0 where
+pub record Put (list : List Bound) (names : List ℕ) (list' : List Bound) (names' : List ℕ) (m : ℕ) (items : List Item) (r : ℕ) : Type 0 where
   pub count : r ≡ m + length items
-  pub stand : Stand froms' tos' codes' names' m items
-  pub froms-kept : (k : ℕ) → k < m → get_or froms' k 0 ≡ get_or froms k 0
-  pub tos-kept : (k : ℕ) → k < m → get_or tos' k 0 ≡ get_or tos k 0
-  pub codes-kept : (k : ℕ) → k < m → get_or codes' k 0 ≡ get_or codes k 0
+  pub stand : Stand list' names' m items
+  pub bounds-kept : (k : ℕ) → k < m → get_or list' k nowhere ≡ get_or list k nowhere
   pub names-kept : (k : ℕ) → k < m → get_or names' k 0 ≡ get_or names k 0

@@ -17,6 +17,7 @@ use Rattle.meaning.specs.Meaning.{SameInput}
 use Rattle.meaning.specs.Meaning.SameInput.{one, two}
 use Rattle.settled.specs.Settled.{points}
 use Rattle.layers.specs.Bounds.{bounds, Sound}
+use Rattle.layers.specs.declared.Bound.{Bound}
 use Rattle.layers.proofs.Rests.{sound-fewer}
 use Rattle.sketch.specs.Sketch.{place, numbers_at, how_of, left, right}
 use Rattle.forest.proofs.Rows.{labelled-less}
@@ -27,13 +28,13 @@ use Rattle.needed.specs.Support.{Walkable, Grounds, Supported}
 use Rattle.needed.proofs.Copying.{numbers-kept}
 
 -- `Gathered`, as far as ties from t on go
-pub record From (s : Sheet) (froms tos codes names ties : List ℕ) (t count : ℕ) (walks walks' : List ℕ) (need need' : List Bool) : Type 0 where
+pub record From (s : Sheet) (list : List Bound) (names ties : List ℕ) (t count : ℕ) (walks walks' : List ℕ) (need need' : List Bool) : Type 0 where
   pub functions : (u : ℕ) → t ≤ u → u < count → marked need' u ≡ true → how_of (get_or ties u 0) ≡ 0
       → SameInput (PathOn ties u need') (term_at s (left ties u)) (term_at s (right ties u))
   pub there : (u : ℕ) → t ≤ u → (e : ℕ) → u < count → marked need' u ≡ true → how_of (get_or ties u 0) ≡ suc e
-      → WalkOn (points s) froms tos codes names walks' need' e (left ties u) (right ties u) (2 * u)
+      → WalkOn (points s) list names walks' need' e (left ties u) (right ties u) (2 * u)
   pub back : (u : ℕ) → t ≤ u → (e : ℕ) → u < count → marked need' u ≡ true → how_of (get_or ties u 0) ≡ suc e
-      → WalkOn (points s) froms tos codes names walks' need' e (right ties u) (left ties u) (2 * u + 1)
+      → WalkOn (points s) list names walks' need' e (right ties u) (left ties u) (2 * u + 1)
   pub stays : (x : ℕ) → marked need x ≡ true → marked need' x ≡ true
   pub only : (x : ℕ) → marked need' x ≡ true → (marked need x ≡ true) ⊎ ((L : Led s names ties walks' need' count x) × (t ≤ L.by))
   pub walks-kept : (k : ℕ) → 2 * count * place ≤ k → get_or walks' k 0 ≡ get_or walks k 0
@@ -45,8 +46,8 @@ input-more : {A B : ℕ → ℕ → Type 0} {u v : Term} → ((i j : ℕ) → A 
 input-more f (one h) = one (f _ _ h)
 input-more f (two h k) = two (f _ _ h) (f _ _ k)
 
-module _ {s : Sheet} {froms tos codes names ties : List ℕ} {count : ℕ} where
-  pub none_yet : (walks : List ℕ) (need : List Bool) → From s froms tos codes names ties count count walks walks need need
+module _ {s : Sheet} {list : List Bound} {names ties : List ℕ} {count : ℕ} where
+  pub none_yet : (walks : List ℕ) (need : List Bool) → From s list names ties count count walks walks need need
   none_yet walks need =
       record {
         functions = λ u l h. absurd (omega arith);
@@ -57,8 +58,8 @@ module _ {s : Sheet} {froms tos codes names ties : List ℕ} {count : ℕ} where
         walks-kept = λ k l. refl;
       }
 
-  pub all : {walks walks' : List ℕ} {need need' : List Bool} → From s froms tos codes names ties 0 count walks walks' need need'
-      → Gathered s froms tos codes names ties count walks walks' need need'
+  pub all : {walks walks' : List ℕ} {need need' : List Bool} → From s list names ties 0 count walks walks' need need'
+      → Gathered s list names ties count walks walks' need need'
   all G =
       record {
         functions = λ u. G.functions u (omega arith);
@@ -69,9 +70,9 @@ module _ {s : Sheet} {froms tos codes names ties : List ℕ} {count : ℕ} where
         walks-kept = G.walks-kept;
       }
 
-  module _ {t : ℕ} {walks walks' : List ℕ} {need need' : List Bool} (G : From s froms tos codes names ties (t + 1) count walks walks' need need') where
+  module _ {t : ℕ} {walks walks' : List ℕ} {need need' : List Bool} (G : From s list names ties (t + 1) count walks walks' need need') where
     -- tie t isn't needed
-    pub left_out : (marked need' t ≡ true → ⊥) → From s froms tos codes names ties t count walks walks' need need'
+    pub left_out : (marked need' t ≡ true → ⊥) → From s list names ties t count walks walks' need need'
     left_out n =
         record {
           functions = λ u l h m. G.functions u (above u l m) h m;
@@ -87,7 +88,7 @@ module _ {s : Sheet} {froms tos codes names ties : List ℕ} {count : ℕ} where
 
     -- it is, and what it rests on is found
     module _ {walks'' : List ℕ} {need'' : List Bool} (small : points s ≤ stride) (room : 2 * count * place ≤ length walks')
-        (same : length walks'' ≡ length walks') (t< : t < count) (own : marked need' t ≡ true) (S : Supported s froms tos codes names ties t walks' walks'' need' need'') where
+        (same : length walks'' ≡ length walks') (t< : t < count) (own : marked need' t ≡ true) (S : Supported s list names ties t walks' walks'' need' need'') where
       -- whether a tie behind it is needed stays
       decided : (u : ℕ) → t ≤ u → marked need'' u ≡ true → marked need' u ≡ true
       decided u l m = ⊎_elim (λ o. o) (λ h. absurd (omega (arith, h.0))) (S.only u m)
@@ -98,8 +99,8 @@ module _ {s : Sheet} {froms tos codes names ties : List ℕ} {count : ℕ} where
       numbers-same : (at : ℕ) → 2 * t + 2 ≤ at → at < 2 * count → get_or walks' (at * place) 0 < points s → numbers_at walks'' at ≡ numbers_at walks' at
       numbers-same at l h f = numbers-kept at walks' walks'' same (omega arith) (omega arith) (λ k p q. S.after k (omega arith))
 
-      walk_more : (at : ℕ) {e a b : ℕ} → 2 * t + 2 ≤ at → at < 2 * count → WalkOn (points s) froms tos codes names walks' need' e a b at
-          → WalkOn (points s) froms tos codes names walks'' need'' e a b at
+      walk_more : (at : ℕ) {e a b : ℕ} → 2 * t + 2 ≤ at → at < 2 * count → WalkOn (points s) list names walks' need' e a b at
+          → WalkOn (points s) list names walks'' need'' e a b at
       walk_more at l h W =
           let e = numbers-same at l h W.few in
           record {
@@ -125,7 +126,7 @@ module _ {s : Sheet} {froms tos codes names ties : List ℕ} {count : ℕ} where
           ⊎_elim (λ o. ⊎_elim inl (λ L. inr (led-more L.0 L.1)) (G.only x o))
           (λ h. inr (record { by = t; later = h.0; there = t<; needed = S.stays t own; leads = h.1 }, omega arith)) (S.only x m)
 
-      pub one_more : From s froms tos codes names ties t count walks walks'' need need''
+      pub one_more : From s list names ties t count walks walks'' need need''
       one_more =
           record {
             functions = from_up _ t (λ h m. S.functions)
@@ -140,8 +141,8 @@ module _ {s : Sheet} {froms tos codes names ties : List ℕ} {count : ℕ} where
           }
 
 -- ties as they are laid have grounds
-module _ {s : Sheet} {froms tos codes old names ties labels : List ℕ} {m listed count : ℕ}
-    (L : Laid s froms tos codes old names ties labels m listed count) (S : Sound (points s) (bounds listed froms tos codes))
+module _ {s : Sheet} {list : List Bound} {old names ties labels : List ℕ} {m listed count : ℕ}
+    (L : Laid s list old names ties labels m listed count) (S : Sound (points s) (bounds listed list))
     (named : listed ≤ length names) (plain : (e : ℕ) → e < m → get_or names e 0 < 1024) (few : count ≤ 256) where
   -- of bounds m + 2k and m + 2k + 1 the names are those of the tie that is listed k-th
   number_of : (b k : ℕ) → b < listed → (b ≡ m + 2 * k) ⊎ (b ≡ m + 2 * k + 1) → get_or names b 0 % 256 ≡ L.number k
@@ -155,7 +156,7 @@ module _ {s : Sheet} {froms tos codes old names ties labels : List ℕ} {m liste
       go (yes e) = inl (omega arith)
       go (no n) = inr (omega arith)
 
-  module _ {t e : ℕ} (W : ByWalks s froms tos codes ties L.number m t e) (e< : e < listed) where
+  module _ {t e : ℕ} (W : ByWalks s list ties L.number m t e) (e< : e < listed) where
     earlier : (b : ℕ) → b < e → 1024 ≤ get_or names b 0 → get_or names b 0 % 256 < t
     earlier b b< h = go (dec_le m b)
       where
@@ -165,11 +166,11 @@ module _ {s : Sheet} {froms tos codes old names ties labels : List ℕ} {m liste
             omega (arith, W.earlier ((b - m) / 2) (omega (arith, W.bounds-are)))
         go (no n) = absurd (omega (arith, plain b (omega arith)))
 
-    walkable : Walkable s froms tos codes names ties t e
+    walkable : Walkable s list names ties t e
     walkable =
         record { sound = sound-fewer (omega arith) S; all-names = omega arith; earlier = earlier; d = W.d; exact = W.exact; tied = W.tied }
 
-  pub grounds : {t : ℕ} → t < count → Grounds s froms tos codes names ties labels t
+  pub grounds : {t : ℕ} → t < count → Grounds s list names ties labels t
   grounds {t} l =
       record {
         labelled = labelled-less (omega arith) L.labelled;

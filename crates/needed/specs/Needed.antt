@@ -9,7 +9,8 @@ use Rattle.sheet.specs.Sheet.{Term, apply, apply2, Sheet, term_at}
 use Rattle.meaning.specs.Meaning.{SameInput}
 use Rattle.settled.specs.Settled.{points}
 use Rattle.walked.specs.Borne.{Few}
-use Rattle.layers.specs.Bounds.{Bounds, bounds, Listed, Goes}
+use Rattle.layers.specs.Bounds.{Bounds, bounds, from, to, Listed, Goes}
+use Rattle.layers.specs.declared.Bound.{Bound}
 use Rattle.reasons.specs.Step.{Step}
 use Rattle.reasons.specs.Rules.{Tied}
 use Rattle.sketch.specs.Sketch.{place, numbers_at, how_of, left, right, Fits}
@@ -49,7 +50,7 @@ pub record FoundBoth (n : ℕ) (B : Bounds) (a b : ℕ) (names : List ℕ) (at :
 -- so behind bound e, which closes a walk
 pub record FoundRound (n : ℕ) (B : Bounds) (names : List ℕ) (e at : ℕ) (walks walks' : List ℕ) (need need' : List Bool) : Type 0 where
   pub need-between : List Bool
-  pub way : Found n B (get_or B.tos e 0) (get_or B.froms e 0) names at walks walks' need need-between
+  pub way : Found n B (to B e) (from B e) names at walks walks' need need-between
   pub first : Marks names (e ∷ []) need-between need'
 
 -- the path between i and j is marked
@@ -59,9 +60,9 @@ pub record PathOn (ties : List ℕ) (t : ℕ) (need : List Bool) (i j : ℕ) : T
   pub on : (x : ℕ) → In x path → marked need x ≡ true
 
 -- a walk from a to b over the first e bounds that comes to 0, and its ties are marked
-pub record WalkOn (n : ℕ) (froms tos codes names walks : List ℕ) (need : List Bool) (e a b at : ℕ) : Type 0 where
+pub record WalkOn (n : ℕ) (list : List Bound) (names walks : List ℕ) (need : List Bool) (e a b at : ℕ) : Type 0 where
   pub few : get_or walks (at * place) 0 < n
-  pub goes : Goes (bounds e froms tos codes) a b zero_gap (numbers_at walks at)
+  pub goes : Goes (bounds e list) a b zero_gap (numbers_at walks at)
   pub on : (t : ℕ) → NamedIn names (numbers_at walks at) t → marked need t ≡ true
 
 -- i and j are arguments of two applications, first and first or second and second
@@ -86,13 +87,13 @@ pub record Led (s : Sheet) (names ties walks : List ℕ) (need : List Bool) (cou
   pub leads : Leads s names ties walks by t
 
 -- all that the needed ones of the first count ties rest on is marked, and their walks are found; nothing is marked but that
-pub record Gathered (s : Sheet) (froms tos codes names ties : List ℕ) (count : ℕ) (walks walks' : List ℕ) (need need' : List Bool) : Type 0 where
+pub record Gathered (s : Sheet) (list : List Bound) (names ties : List ℕ) (count : ℕ) (walks walks' : List ℕ) (need need' : List Bool) : Type 0 where
   pub functions : (t : ℕ) → t < count → marked need' t ≡ true → how_of (get_or ties t 0) ≡ 0
       → SameInput (PathOn ties t need') (term_at s (left ties t)) (term_at s (right ties t))
   pub there : (t e : ℕ) → t < count → marked need' t ≡ true → how_of (get_or ties t 0) ≡ suc e
-      → WalkOn (points s) froms tos codes names walks' need' e (left ties t) (right ties t) (2 * t)
+      → WalkOn (points s) list names walks' need' e (left ties t) (right ties t) (2 * t)
   pub back : (t e : ℕ) → t < count → marked need' t ≡ true → how_of (get_or ties t 0) ≡ suc e
-      → WalkOn (points s) froms tos codes names walks' need' e (right ties t) (left ties t) (2 * t + 1)
+      → WalkOn (points s) list names walks' need' e (right ties t) (left ties t) (2 * t + 1)
   pub stays : (t : ℕ) → marked need t ≡ true → marked need' t ≡ true
   pub only : (t : ℕ) → marked need' t ≡ true → (marked need t ≡ true) ⊎ Led s names ties walks' need' count t
   pub walks-kept : (k : ℕ) → 2 * count * place ≤ k → get_or walks' k 0 ≡ get_or walks k 0

@@ -9,21 +9,20 @@ ghost use Rattle.cells.specs.Cells.{stride, cells, Kept};
 ghost use Rattle.sheet.specs.Decode.{Sized, sheet_of};
 ghost use Rattle.sheet.specs.Sheet.{WellFormed, count_terms, term_at};
 ghost use Rattle.settled.specs.Settled.{points};
-ghost use Rattle.layers.specs.Bounds.{bounds, Sound, Reachable};
+ghost use Rattle.layers.specs.Bounds.{bounds, from_at, to_at, Sound, Reachable};
 ghost use Rattle.sketch.specs.Sketch.{place, ending, walks_length};
 ghost use Rattle.forest.specs.Labels.{Labelled};
 ghost use Rattle.laid.specs.Laid.{Laid};
 ghost use Rattle.needed.specs.Needed.{Marks, Found, FoundBoth, FoundRound, Gathered};
 ghost use Rattle.needed.specs.Support.{InOneGroup, Grounds, Argued, Supported};
 
+use layers::Bound;
 use sheet::{Term, TermNumber};
 use sketch::{ENDING, PLACE, TIE};
 
 // For an ending by bound e, which closes a walk under zero: the least walk back over the bounds before it.
 pub fn round(
-    froms: &[u8],
-    tos: &[u8],
-    codes: &[u32],
+    list: &[Bound],
     names: &[u16],
     n: usize,
     e: usize,
@@ -31,25 +30,21 @@ pub fn round(
     need: &mut [bool],
     walks: &mut [u16],
 )
-    requires sound { Sound n (bounds (e + 1) froms.now tos.now codes.now) × Reachable n (bounds e froms.now tos.now codes.now) (get_or tos.now e 0) (get_or froms.now e 0) }
+    requires sound { Sound n (bounds (e + 1) list.now) × Reachable n (bounds e list.now) (to_at list.now e) (from_at list.now e) }
     requires n_le_stride { (n ≤ stride) × (length best.old ≡ cells) × (walks_length ≤ length walks.old) × (e < length names.now) }
     requires by_index { (b : ℕ) → b < e + 1 → 1024 ≤ get_or names.now b 0 → get_or names.now b 0 % 256 < length need.old }
-    ensures found { FoundRound n (bounds e froms.now tos.now codes.now) names.now e ending walks.old walks.new need.old need.new }
+    ensures found { FoundRound n (bounds e list.now) names.now e ending walks.old walks.new need.old need.new }
     ensures kept { Kept n best.old best.new }
 {
-    let from = usize::from(froms[e]);
-    let to = usize::from(tos[e]);
-    find(
-        froms, tos, codes, names, e, n, to, from, best, need, walks, ENDING,
-    );
+    let from = usize::from(list[e].from);
+    let to = usize::from(list[e].to);
+    find(list, names, e, n, to, from, best, need, walks, ENDING);
     mark_bound(names, need, e);
 }
 
 // The least walks over the first m bounds from a to b and from b to a, at two places.
 pub fn both(
-    froms: &[u8],
-    tos: &[u8],
-    codes: &[u32],
+    list: &[Bound],
     names: &[u16],
     m: usize,
     n: usize,
@@ -60,35 +55,20 @@ pub fn both(
     walks: &mut [u16],
     at: usize,
 )
-    requires sound { Sound n (bounds m froms.now tos.now codes.now) × Reachable n (bounds m froms.now tos.now codes.now) a b × Reachable n (bounds m froms.now tos.now codes.now) b a }
+    requires sound { Sound n (bounds m list.now) × Reachable n (bounds m list.now) a b × Reachable n (bounds m list.now) b a }
     requires n_le_stride { (n ≤ stride) × (a < n) × (b < n) × (length best.old ≡ cells) × ((at + 2) * place ≤ length walks.old) × (m ≤ length names.now) }
     requires by_index { (e : ℕ) → e < m → 1024 ≤ get_or names.now e 0 → get_or names.now e 0 % 256 < length need.old }
-    ensures found { FoundBoth n (bounds m froms.now tos.now codes.now) a b names.now at walks.old walks.new need.old need.new }
+    ensures found { FoundBoth n (bounds m list.now) a b names.now at walks.old walks.new need.old need.new }
     ensures kept { Kept n best.old best.new }
 {
-    find(froms, tos, codes, names, m, n, a, b, best, need, walks, at);
-    find(
-        froms,
-        tos,
-        codes,
-        names,
-        m,
-        n,
-        b,
-        a,
-        best,
-        need,
-        walks,
-        at + 1,
-    );
+    find(list, names, m, n, a, b, best, need, walks, at);
+    find(list, names, m, n, b, a, best, need, walks, at + 1);
 }
 
 // All that the needed ones of the first count ties rest on, from the last down.
 pub fn gather(
     sheet: &[u8],
-    froms: &[u8],
-    tos: &[u8],
-    codes: &[u32],
+    list: &[Bound],
     names: &[u16],
     m: usize,
     listed: usize,
@@ -100,18 +80,18 @@ pub fn gather(
     walks: &mut [u16],
 )
     requires sized { Sized sheet.now × WellFormed (sheet_of sheet.now) × (length best.old ≡ cells) }
-    requires sound { Sound (points (sheet_of sheet.now)) (bounds listed froms.now tos.now codes.now) × (listed ≤ length names.now) }
+    requires sound { Sound (points (sheet_of sheet.now)) (bounds listed list.now) × (listed ≤ length names.now) }
     requires ties_len { (length ties.now ≡ stride) × (length labels.now ≡ cells) × (count ≤ count_terms (sheet_of sheet.now)) × (count ≤ length need.old) × (walks_length ≤ length walks.old) }
-    requires laid { Laid (sheet_of sheet.now) froms.now tos.now codes.now names.now names.now ties.now labels.now m listed count }
+    requires laid { Laid (sheet_of sheet.now) list.now names.now names.now ties.now labels.now m listed count }
     requires by_index { (e : ℕ) → e < m → get_or names.now e 0 < 1024 }
-    ensures gathered { Gathered (sheet_of sheet.now) froms.now tos.now codes.now names.now ties.now count walks.old walks.new need.old need.new }
+    ensures gathered { Gathered (sheet_of sheet.now) list.now names.now ties.now count walks.old walks.new need.old need.new }
     ensures kept { Kept (points (sheet_of sheet.now)) best.old best.new }
 {
     let n = reading::count_terms(sheet) + 1;
     for t in (0..count).rev() {
         if need[t] {
             support(
-                sheet, froms, tos, codes, names, n, ties[t], ties, labels, t, best, need, walks,
+                sheet, list, names, n, ties[t], ties, labels, t, best, need, walks,
             );
         }
     }
@@ -120,9 +100,7 @@ pub fn gather(
 // What tie t rests on.
 fn support(
     sheet: &[u8],
-    froms: &[u8],
-    tos: &[u8],
-    codes: &[u32],
+    list: &[Bound],
     names: &[u16],
     n: usize,
     tie: u32,
@@ -136,8 +114,8 @@ fn support(
     requires sized { Sized sheet.now × WellFormed (sheet_of sheet.now) × (n ≡ points (sheet_of sheet.now)) × (tie ≡ get_or ties.now t 0) }
     requires ties_len { (length ties.now ≡ stride) × (length labels.now ≡ cells) × (t < count_terms (sheet_of sheet.now)) × (t ≤ length need.old) }
     requires best_len { (length best.old ≡ cells) × (walks_length ≤ length walks.old) }
-    requires grounds { Grounds (sheet_of sheet.now) froms.now tos.now codes.now names.now ties.now labels.now t }
-    ensures supported { Supported (sheet_of sheet.now) froms.now tos.now codes.now names.now ties.now t walks.old walks.new need.old need.new }
+    requires grounds { Grounds (sheet_of sheet.now) list.now names.now ties.now labels.now t }
+    ensures supported { Supported (sheet_of sheet.now) list.now names.now ties.now t walks.old walks.new need.old need.new }
     ensures kept { Kept n best.old best.new }
 {
     let a = sketch::left(tie);
@@ -145,20 +123,7 @@ fn support(
     // By functions, or by walks over the first m bounds.
     match sketch::how(tie).checked_sub(1) {
         None => arguments(sheet, ties, labels, need, n, t, a, b),
-        Some(m) => both(
-            froms,
-            tos,
-            codes,
-            names,
-            m,
-            n,
-            a,
-            b,
-            best,
-            need,
-            walks,
-            2 * t,
-        ),
+        Some(m) => both(list, names, m, n, a, b, best, need, walks, 2 * t),
     }
 }
 
@@ -195,9 +160,7 @@ fn arguments(
 
 // The least walk over the first m bounds from a to b, at a place, with its ties marked.
 fn find(
-    froms: &[u8],
-    tos: &[u8],
-    codes: &[u32],
+    list: &[Bound],
     names: &[u16],
     m: usize,
     n: usize,
@@ -208,15 +171,15 @@ fn find(
     walks: &mut [u16],
     at: usize,
 )
-    requires sound { Sound n (bounds m froms.now tos.now codes.now) × Reachable n (bounds m froms.now tos.now codes.now) a b }
+    requires sound { Sound n (bounds m list.now) × Reachable n (bounds m list.now) a b }
     requires n_le_stride { (n ≤ stride) × (a < n) × (b < n) × (length best.old ≡ cells) × ((at + 1) * place ≤ length walks.old) × (m ≤ length names.now) }
     requires by_index { (e : ℕ) → e < m → 1024 ≤ get_or names.now e 0 → get_or names.now e 0 % 256 < length need.old }
-    ensures found { Found n (bounds m froms.now tos.now codes.now) a b names.now at walks.old walks.new need.old need.new }
+    ensures found { Found n (bounds m list.now) a b names.now at walks.old walks.new need.old need.new }
     ensures kept { Kept n best.old best.new }
 {
     let head = at * PLACE;
     let mut out = [0u16; sheet::MAX_TERMS + 1];
-    let k = layers::walk(froms, tos, codes, m, n, a, b, best, &mut out);
+    let k = layers::walk(list, m, n, a, b, best, &mut out);
     walks[head] = k as u16;
     for x in 0..k {
         walks[head + 1 + x] = out[x];

@@ -9,28 +9,20 @@ ghost use Rattle.cells.specs.Cells.{stride, cells, cell};
 ghost use Rattle.layers.specs.Bounds.{bounds, Sound, Listed};
 ghost use Rattle.rests.specs.Rested.{Rested};
 
-use gap::Gap;
+use layers::Bound;
 
 // Puts bounds `from` to m - 1 in, in that order, and answers how many of the first m are in: fewer than m where the next closes a walk
 // under zero.
-pub fn put(
-    d: &mut [u32],
-    n: usize,
-    froms: &[u8],
-    tos: &[u8],
-    codes: &[u32],
-    from: usize,
-    m: usize,
-) -> usize
+pub fn put(d: &mut [u32], n: usize, list: &[Bound], from: usize, m: usize) -> usize
     requires d_len { (length d.old ≡ cells) × (n ≤ stride) × (from ≤ m) }
-    requires sound { Sound n (bounds m froms.now tos.now codes.now) }
-    requires exact { Exact n (Listed (bounds from froms.now tos.now codes.now)) (cell d.old) }
-    ensures { Rested n m froms.now tos.now codes.now from d.old d.new result }
+    requires sound { Sound n (bounds m list.now) }
+    requires exact { Exact n (Listed (bounds from list.now)) (cell d.old) }
+    ensures { Rested n m list.now from d.old d.new result }
 {
     for k in from..m {
-        let a = usize::from(froms[k]);
-        let b = usize::from(tos[k]);
-        if !table::insert(d, n, a, b, Gap(codes[k])) {
+        let a = usize::from(list[k].from);
+        let b = usize::from(list[k].to);
+        if !table::insert(d, n, a, b, list[k].gap) {
             return k;
         }
     }

@@ -9,20 +9,20 @@ use Rattle.grown.proofs.tie_all.Goals as goal
 
 pub loop-i-init : goal.loop-i-init
 loop-i-init c =
-    let lists = c.requires.froms_len in
-    (begun (lists.0, lists.1, lists.2) c.requires.sound c.requires.exact, front-all, kept-all _ _)
+    let lists = c.requires.list_len in
+    (begun lists.0 c.requires.sound c.requires.exact, front-all, kept-all _ _)
 
 pub both-requires : goal.both-requires
 both-requires c =
     let G = c.loop-i.invariant.0 in
-    let l = room c.requires.sized.1.terms c.requires.froms_len.3 G (pair c.in-Some.ensures) in
-    (omega (arith, G.froms-length), omega (arith, G.tos-length), omega (arith, G.codes-length))
+    let l = room c.requires.sized.1.terms c.requires.list_len.1 G (pair c.in-Some.ensures) in
+    omega (arith, G.all-room)
 
 pub put-put-requires-clause-sound : goal.put-put-requires-clause-sound
 put-put-requires-clause-sound c =
     let new = c.both.auto in
     let L =
-    listing c.requires.sized.1.terms c.requires.froms_len.3 c.loop-i.invariant.0 (pair c.in-Some.ensures) c.both.ensures (new.froms, new.tos, new.codes)
+    listing c.requires.sized.1.terms c.requires.list_len.1 c.loop-i.invariant.0 (pair c.in-Some.ensures) c.both.ensures new.list
     in
     rw c.count_terms-n.ensures.0 (sound L)
 
@@ -30,7 +30,7 @@ pub put-put-requires-clause-exact : goal.put-put-requires-clause-exact
 put-put-requires-clause-exact c =
     let new = c.both.auto in
     let L =
-    listing c.requires.sized.1.terms c.requires.froms_len.3 c.loop-i.invariant.0 (pair c.in-Some.ensures) c.both.ensures (new.froms, new.tos, new.codes)
+    listing c.requires.sized.1.terms c.requires.list_len.1 c.loop-i.invariant.0 (pair c.in-Some.ensures) c.both.ensures new.list
     in
     rw c.count_terms-n.ensures.0 (rests L)
 
@@ -38,7 +38,7 @@ pub returns-then-put-listed-clause-grew : goal.returns-then-put-listed-clause-gr
 returns-then-put-listed-clause-grew c =
     let new = c.both.auto in
     let L =
-    listing c.requires.sized.1.terms c.requires.froms_len.3 c.loop-i.invariant.0 (pair c.in-Some.ensures) c.both.ensures (new.froms, new.tos, new.codes)
+    listing c.requires.sized.1.terms c.requires.list_len.1 c.loop-i.invariant.0 (pair c.in-Some.ensures) c.both.ensures new.list
     in
     shut L (rw c.count_terms-n.ensures.0 at c.put-put.ensures) c.if-put-listed.true
 
@@ -46,6 +46,6 @@ pub loop-i-preserved : goal.loop-i-preserved
 loop-i-preserved c =
     let inv = c.loop-i.invariant in
     let new = c.both.auto in
-    let L = listing c.requires.sized.1.terms c.requires.froms_len.3 inv.0 (pair c.in-Some.ensures) c.both.ensures (new.froms, new.tos, new.codes) in
+    let L = listing c.requires.sized.1.terms c.requires.list_len.1 inv.0 (pair c.in-Some.ensures) c.both.ensures new.list in
     let R = rw c.count_terms-n.ensures.0 at c.put-put.ensures in
     (grown L R c.if-put-listed.false, front-still L inv.1, kept_on inv.2 R.kept)

@@ -11,7 +11,7 @@ use Rattle.grown.proofs.tie_all.Given as goal
 
 abbrev pub invariant-loop-i : goal.invariant-loop-i
 invariant-loop-i l =
-    Growing (sheet_of l.sheet) l.m l.froms l.tos l.codes l.d l.listed × Front l.m l.initial.froms l.initial.tos l.initial.codes l.froms l.tos l.codes
+    Growing (sheet_of l.sheet) l.m l.list l.d l.listed × Front l.m l.initial.list l.list
     × Kept (points (sheet_of l.sheet)) l.initial.d l.d
 
 abbrev pub decreases-loop-i : goal.decreases-loop-i

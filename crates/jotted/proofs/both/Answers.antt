@@ -6,9 +6,7 @@ use Rattle.jotted.proofs.both.Goals as goal
 pub returns : goal.returns
 returns c =
     record {
-      froms-between = _;
-      tos-between = _;
-      codes-between = _;
+      between = _;
       there = rw (weak-to _ _ c.to.ensures) at c.one.ensures;
       back = rw (weak-back _ _ c.back.ensures) at c.one-2.ensures;
     }

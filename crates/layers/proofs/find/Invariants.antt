@@ -7,4 +7,4 @@ use Rattle.layers.specs.Layer.{Chosen}
 use Rattle.layers.proofs.find.Given as goal
 
 abbrev pub invariant-loop-e : goal.invariant-loop-e
-invariant-loop-e l = (k : ℕ) → k < l.e → Chosen (bounds l.m l.froms l.tos l.codes) (cell l.best l.h) l.i l.total.0 k → ⊥
+invariant-loop-e l = (k : ℕ) → k < l.e → Chosen (bounds l.m l.list) (cell l.best l.h) l.i l.total.0 k → ⊥

@@ -5,5 +5,5 @@ use Rattle.layers.specs.Bounds.{bounds}
 use Rattle.layers.specs.Layer.{RowOver}
 use Rattle.layers.proofs.relax.Given as goal
 
-abbrev pub invariant-loop-e : goal.invariant-loop-e
-invariant-loop-e l = RowOver (bounds l.m l.froms l.tos l.codes) l.e l.n l.initial.best l.best l.h l.changed × Kept l.n l.initial.best l.best
+abbrev pub invariant-loop-bound : goal.invariant-loop-bound
+invariant-loop-bound l = RowOver (bounds l.m l.list) l.bound-index l.n l.initial.best l.best l.h l.changed × Kept l.n l.initial.best l.best

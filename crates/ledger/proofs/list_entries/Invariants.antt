@@ -7,4 +7,4 @@ use Rattle.ledger.specs.Ledger.{Ledger}
 use Rattle.ledger.proofs.list_entries.Given as goal
 
 abbrev pub invariant-loop-e : goal.invariant-loop-e
-invariant-loop-e l = Ledger (sheet_of l.sheet) (marked l.set) l.froms l.tos l.codes l.names l.m (count_terms (sheet_of l.sheet)) l.e
+invariant-loop-e l = Ledger (sheet_of l.sheet) (marked l.set) l.list l.names l.m (count_terms (sheet_of l.sheet)) l.e

@@ -9,12 +9,12 @@ pub list_term-m-requires : goal.list_term-m-requires
 list_term-m-requires c =
     let few = (c.loop-i.invariant every).few in
     let wf = c.requires.sized.1 in
-    (omega arith, omega arith, omega arith, omega arith)
+    (omega arith, omega arith)
 
 pub loop-i-preserved : goal.loop-i-preserved
 loop-i-preserved c =
     λ S.
-    term-more (c.loop-i.invariant S) (omega arith, omega arith, omega arith) (omega arith) c.requires.sized.1 (omega arith) c.count_terms-t.ensures.0
+    term-more (c.loop-i.invariant S) (omega arith) (omega arith) c.requires.sized.1 (omega arith) c.count_terms-t.ensures.0
     c.term_at.ensures c.list_term-m.ensures
 
 pub returns : goal.returns

@@ -6,4 +6,4 @@ use Rattle.ledger.specs.Ledger.{Ledger}
 use Rattle.ledger.proofs.list_terms.Given as goal
 
 abbrev pub invariant-loop-i : goal.invariant-loop-i
-invariant-loop-i l = (S : Set) → Ledger (sheet_of l.sheet) S l.froms l.tos l.codes l.names l.m l.i 0
+invariant-loop-i l = (S : Set) → Ledger (sheet_of l.sheet) S l.list l.names l.m l.i 0

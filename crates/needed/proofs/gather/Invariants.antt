@@ -8,5 +8,5 @@ use Rattle.needed.proofs.gather.Given as goal
 
 abbrev pub invariant-loop-t : goal.invariant-loop-t
 invariant-loop-t l =
-    From (sheet_of l.sheet) l.froms l.tos l.codes l.names l.ties l.t l.count l.initial.walks l.walks l.initial.need l.need
+    From (sheet_of l.sheet) l.list l.names l.ties l.t l.count l.initial.walks l.walks l.initial.need l.need
     × Kept (points (sheet_of l.sheet)) l.initial.best l.best

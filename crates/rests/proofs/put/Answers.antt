@@ -6,7 +6,7 @@ use Rattle.rests.proofs.put.Goals as goal
 
 pub loop-k-preserved : goal.loop-k-preserved
 loop-k-preserved c =
-    one_more _ _ _ _ _ _ _ _ _ _ c.loop-k-test.true c.requires.sound c.loop-k.invariant
+    one_more _ _ _ _ _ _ _ _ c.loop-k-test.true c.requires.sound c.loop-k.invariant
     (rw (c.from-a.ensures, c.from-b.ensures) at (c.insert.ensures.put (search rules)))
 
 pub returns : goal.returns

@@ -4,4 +4,4 @@ use Rattle.rests.specs.Rested.{Rested}
 use Rattle.rests.proofs.put.Given as goal
 
 abbrev pub invariant-loop-k : goal.invariant-loop-k
-invariant-loop-k l = Rested l.n l.k l.froms l.tos l.codes l.from l.initial.d l.d l.k
+invariant-loop-k l = Rested l.n l.k l.list l.from l.initial.d l.d l.k
