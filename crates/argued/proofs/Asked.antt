@@ -3,7 +3,6 @@
 use Rattle.std.proofs.Common.{◌≡◌, ℕ, ◌+◌, ◌*◌, ◌%◌, ◌<◌, ◌≤◌, Bool, List, length, get_or, ap, arith}
 use Rattle.closure.specs.Closed.{TiedAt}
 use Rattle.cells.specs.Cells.{stride, cells, cell}
-use Rattle.sheet.specs.Decode.{sheet_of}
 use Rattle.sheet.specs.declared.Entry.{Entry as Code-Entry}
 use Rattle.sheet.specs.Says.{biased_says, entry_says}
 use Rattle.sheet.specs.Sheet.{Entry, Sheet, count_terms, count_entries, entry_at}
@@ -33,11 +32,8 @@ readable l full L = record {
   named = λ x h. nameable (L.named x h);
 }
 
-module _ {sheet : List ℕ} {list : List Bound} {names ties labels best room : List ℕ} {m listed count put k : ℕ}
-    (Y : Ready sheet list names ties labels best room m listed count put k) where
-  abbrev s : Sheet
-  s = sheet_of sheet
-
+module _ {s : Sheet} {list : List Bound} {names ties labels best room : List ℕ} {m listed count put k : ℕ}
+    (Y : Ready s list names ties labels best room m listed count put k) where
   pub few : count ≤ 128
   few = omega (arith, few-ties Y.formed Y.drafted, Y.formed.terms)
 
@@ -77,27 +73,27 @@ module _ {sheet : List ℕ} {list : List Bound} {names ties labels best room : L
   }
 
 -- where the table has all bounds, and an entry on tied terms was read
-module _ {sheet : List ℕ} {list : List Bound} {names ties labels best room : List ℕ} {m listed count k : ℕ}
-    (Y : Ready sheet list names ties labels best room m listed count listed k) (entry : Code-Entry) {x : ℕ}
-    (E : entry_says entry ≡ entry_at (sheet_of sheet) x) (x< : x < count_entries (sheet_of sheet)) where
-  pub left< : entry.a.0 < count_terms (sheet_of sheet)
+module _ {s : Sheet} {list : List Bound} {names ties labels best room : List ℕ} {m listed count k : ℕ}
+    (Y : Ready s list names ties labels best room m listed count listed k) (entry : Code-Entry) {x : ℕ}
+    (E : entry_says entry ≡ entry_at s x) (x< : x < count_entries s) where
+  pub left< : entry.a.0 < count_terms s
   left< = omega (arith, Y.formed.left x x<, ap (λ (y : Entry). y.a) E)
 
-  pub right< : entry.b.0 < count_terms (sheet_of sheet)
+  pub right< : entry.b.0 < count_terms s
   right< = omega (arith, Y.formed.right x x<, ap (λ (y : Entry). y.b) E)
 
-  pub on_tied : Broken (cell best) (entry_at (sheet_of sheet) x) → TiedAt (cell best) entry.a.0 entry.b.0 (biased_says entry.c)
+  pub on_tied : Broken (cell best) (entry_at s x) → TiedAt (cell best) entry.a.0 entry.b.0 (biased_says entry.c)
   on_tied B = (rw (← E) at B).tied
 
   -- so there are fewer ties than terms, where those don't have them in one group
   pub few-more : (cell labels count entry.a.0 ≡ cell labels count entry.b.0 → ⊥) → count < 128
   few-more apart = omega (arith, few-more-ties Y.formed Y.drafted left< right< apart, Y.formed.terms)
 
-  module _ {t : ℕ} (e : t ≡ count_terms (sheet_of sheet)) where
+  module _ {t : ℕ} (e : t ≡ count_terms s) where
     pub labelled : Labelled (t + 1) ties labels count
     labelled = rw e Y.drafted.laid.labelled
 
-    pub both-asks : Broken (cell best) (entry_at (sheet_of sheet) x) → Sound (t + 1) (bounds listed list)
+    pub both-asks : Broken (cell best) (entry_at s x) → Sound (t + 1) (bounds listed list)
         × Reachable (t + 1) (bounds listed list) entry.a.0 entry.b.0
         × Reachable (t + 1) (bounds listed list) entry.b.0 entry.a.0
     both-asks B =

@@ -11,7 +11,6 @@ use Rattle.cells.specs.Cells.{cell}
 use Rattle.order.specs.First.{Set, marked}
 use Rattle.sheet.specs.Limits.{max_terms}
 use Rattle.sheet.specs.declared.Entry.{Entry as Code-Entry}
-use Rattle.sheet.specs.Decode.{sheet_of}
 use Rattle.sheet.specs.Says.{biased_says, entry_says}
 use Rattle.sheet.specs.Sheet.{Entry, Sheet, count_terms, count_entries, entry_at}
 use Rattle.ties.specs.Ties.{Broken}
@@ -37,11 +36,8 @@ closed : {s : Sheet} {S keep : Set} {steps : List Step} {last k : ℕ} {old new 
     StepsWritten k (pruned keep steps) old new end → Closed s S k old new end
 closed P w = record { steps = _; last = _; closes = pruned-closes P; spare = pruned-spare P; written = w }
 
-module _ {sheet : List ℕ} {list : List Bound} {names ties labels best room : List ℕ} {m listed count put k : ℕ}
-    (Y : Ready sheet list names ties labels best room m listed count put k) {t : ℕ} (e : t ≡ count_terms (sheet_of sheet)) where
-  abbrev s : Sheet
-  s = sheet_of sheet
-
+module _ {s : Sheet} {list : List Bound} {names ties labels best room : List ℕ} {m listed count put k : ℕ}
+    (Y : Ready s list names ties labels best room m listed count put k) {t : ℕ} (e : t ≡ count_terms s) where
   abbrev DraftOf : Set → Type 0
   DraftOf S = Drafted s S list names ties labels m listed count
 
@@ -79,10 +75,10 @@ signed-c r v r< v< e =
     go (yes l) = inl (omega arith)
     go (no l) = inr (omega arith)
 
-module _ {sheet : List ℕ} {list : List Bound} {names ties labels best room : List ℕ} {m listed count k : ℕ}
-    (Y : Ready sheet list names ties labels best room m listed count listed k) (entry : Code-Entry) {x : ℕ}
-    (E : entry_says entry ≡ entry_at (sheet_of sheet) x) (x< : x < count_entries (sheet_of sheet)) (B : Broken (cell best) (entry_at (sheet_of sheet) x)) where
-  broken-entry : (S : Set) → S x ≡ true → BrokenEntry (sheet_of sheet) S (cell best) x entry.a.0 entry.b.0 (biased_says entry.c)
+module _ {s : Sheet} {list : List Bound} {names ties labels best room : List ℕ} {m listed count k : ℕ}
+    (Y : Ready s list names ties labels best room m listed count listed k) (entry : Code-Entry) {x : ℕ}
+    (E : entry_says entry ≡ entry_at s x) (x< : x < count_entries s) (B : Broken (cell best) (entry_at s x)) where
+  broken-entry : (S : Set) → S x ≡ true → BrokenEntry s S (cell best) x entry.a.0 entry.b.0 (biased_says entry.c)
   broken-entry S h = record {
     there = x<;
     on_list = h;
@@ -95,21 +91,21 @@ module _ {sheet : List ℕ} {list : List Bound} {names ties labels best room : L
 
   -- it closes by the path between its terms
   module _ {walks walks' : List ℕ} {before need₀ need' : List Bool} (P : PathMarked ties count entry.a.0 entry.b.0 before need₀)
-      (G : Gathered (sheet_of sheet) list names ties count walks walks' (set need₀ count true) need') (c : count < length need₀) where
+      (G : Gathered s list names ties count walks walks' (set need₀ count true) need') (c : count < length need₀) where
     pub path-marked : marked need' count ≡ true
     path-marked = G.stays count (get_or-set_same need₀ count true false c)
 
     pub path-closes : {old new : List ℕ} {end : ℕ} → ((u : ℕ) → marked before u ≡ true → ⊥) →
         StepsWritten k (pruned (marked need') (path_steps names ties walks' count x)) old new end →
-        (S : Set) → S x ≡ true → Drafted (sheet_of sheet) S list names ties labels m listed count → Closed (sheet_of sheet) S k old new end
+        (S : Set) → S x ≡ true → Drafted s S list names ties labels m listed count → Closed s S k old new end
     path-closes none W S h D =
         closed (path-prunable Y.formed D G x Y.grew.exact (Y.grew.saturated refl) (broken-entry S h) P none
         (behind_more count (omega arith) behind-none) (get_or-set_same need₀ count true false c)) W
 
   -- or behind a tie of them
-  module _ {t : ℕ} (e : t ≡ count_terms (sheet_of sheet)) {w walks walks' : List ℕ} {before need₀ need' : List Bool}
+  module _ {t : ℕ} (e : t ≡ count_terms s) {w walks walks' : List ℕ} {before need₀ need' : List Bool}
       (F : FoundBoth (t + 1) (bounds listed list) entry.a.0 entry.b.0 names ending w walks before need₀)
-      (G : Gathered (sheet_of sheet) list names ties count walks walks' (set (set need₀ count true) (count + 1) true) need')
+      (G : Gathered s list names ties count walks walks' (set (set need₀ count true) (count + 1) true) need')
       (c : count + 1 < length need₀) (same : length walks' ≡ length walks) where
     first-marked : marked (set (set need₀ count true) (count + 1) true) count ≡ true
     first-marked = get_or-set_other (set need₀ count true) (count + 1) count true false (omega arith) ∙ get_or-set_same need₀ count true false (omega arith)
@@ -128,7 +124,7 @@ module _ {sheet : List ℕ} {list : List Bound} {names ties labels best room : L
     pub tie-closes : {old new : List ℕ} {end : ℕ} (r : ℕ) → r < 2 ^ 64 → entry.c.0 < 65536 → (r + 32768) % 2 ^ 64 ≡ entry.c.0 →
         (cell labels count entry.a.0 ≡ cell labels count entry.b.0 → ⊥) → ((u : ℕ) → marked before u ≡ true → ⊥) →
         StepsWritten k (pruned (marked need') (tie_steps names ties walks' count entry.a.0 entry.b.0 (signed_of 8 r) x)) old new end →
-        (S : Set) → S x ≡ true → Drafted (sheet_of sheet) S list names ties labels m listed count → Closed (sheet_of sheet) S k old new end
+        (S : Set) → S x ≡ true → Drafted s S list names ties labels m listed count → Closed s S k old new end
     tie-closes r r< c< q far none W S h D =
         closed (tie-prunable Y.formed D G x Y.grew.exact (broken-entry S h) far (rw e at F) none
         (behind_more (count + 1) (omega arith) (behind_more count (omega arith) behind-none)) first-marked second-marked same)

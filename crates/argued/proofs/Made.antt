@@ -3,7 +3,6 @@
 use Rattle.std.proofs.Common.{◌≡◌, ℕ, ◌≤◌, List, length, arith}
 use Rattle.cells.specs.Cells.{stride, cells, cell}
 use Rattle.order.specs.First.{Set}
-use Rattle.sheet.specs.Decode.{Sized, sheet_of}
 use Rattle.sheet.specs.Sheet.{Sheet, WellFormed, count_entries}
 use Rattle.grown.specs.Grown.{Grew}
 use Rattle.layers.specs.declared.Bound.{Bound}
@@ -19,13 +18,12 @@ pub all-grew : {s : Sheet} {list : List Bound} {m : ℕ} {d : ℕ → ℕ → �
     Grew s list m d listed listed
 all-grew {listed = listed} {put} G l = rw (let e : put ≡ listed = omega (arith, G.at-most) in e) at G
 
-pub ready : {sheet : List ℕ} {list : List Bound} {names ties labels best old room : List ℕ} {m listed put count k : ℕ} {S : Set} → Sized sheet → WellFormed (sheet_of sheet) →
-    Drafted (sheet_of sheet) S list names ties labels m listed count → Grew (sheet_of sheet) list m (cell best) listed put →
-    Lists (count_entries (sheet_of sheet)) S old room head_length k → reason_room ≤ length old →
+pub ready : {s : Sheet} {list : List Bound} {names ties labels best old room : List ℕ} {m listed put count k : ℕ} {S : Set} → WellFormed s →
+    Drafted s S list names ties labels m listed count → Grew s list m (cell best) listed put →
+    Lists (count_entries s) S old room head_length k → reason_room ≤ length old →
     length names ≡ most → length ties ≡ stride → length labels ≡ cells → length best ≡ cells →
-    Ready sheet list names ties labels best room m listed count put k
-ready {names = names} {old = old} {room} {S = S} z W D G L r n t l b = record {
-  sized = z;
+    Ready s list names ties labels best room m listed count put k
+ready {names = names} {old = old} {room} {S = S} W D G L r n t l b = record {
   formed = W;
   set = S;
   drafted = D;

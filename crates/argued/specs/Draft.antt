@@ -4,8 +4,7 @@ use Rattle.std.specs.Prelude.{◌≡◌, ℕ, ◌+◌, ◌*◌, ◌<◌, ◌≤�
 use Rattle.cells.specs.Cells.{stride, cells, cell}
 use Rattle.order.specs.First.{Set, marked}
 use Rattle.sheet.specs.Limits.{max_terms, max_entries}
-use Rattle.sheet.specs.Decode.{Sized, sheet_of}
-use Rattle.sheet.specs.Sheet.{WellFormed}
+use Rattle.sheet.specs.Sheet.{Sheet, WellFormed}
 use Rattle.layers.specs.declared.Bound.{Bound}
 use Rattle.grown.specs.Grown.{Grew}
 use Rattle.sketch.specs.Sketch.{how_of}
@@ -14,12 +13,11 @@ use Rattle.paper.specs.Record.{reason_room}
 use Rattle.paper.specs.Written.{Readable}
 
 -- a draft of some list, with the table that was grown for it, and room for the record of k entries
-pub record Ready (sheet : List ℕ) (list : List Bound) (names ties labels best room : List ℕ) (m listed count put k : ℕ) : Type 0 where
-  pub sized : Sized sheet
-  pub formed : WellFormed (sheet_of sheet)
+pub record Ready (s : Sheet) (list : List Bound) (names ties labels best room : List ℕ) (m listed count put k : ℕ) : Type 0 where
+  pub formed : WellFormed s
   pub set : Set
-  pub drafted : Drafted (sheet_of sheet) set list names ties labels m listed count
-  pub grew : Grew (sheet_of sheet) list m (cell best) listed put
+  pub drafted : Drafted s set list names ties labels m listed count
+  pub grew : Grew s list m (cell best) listed put
   pub all-names : listed ≤ length names
   pub all-ties : length ties ≡ stride
   pub all-labels : length labels ≡ cells

@@ -10,8 +10,7 @@ ghost use Rattle.closure.specs.Closed.{Closed as ClosedTable};
 ghost use Rattle.closure.specs.Table.{reach};
 ghost use Rattle.cells.specs.Cells.{cells, cell, Kept};
 ghost use Rattle.order.specs.First.{Set, marked};
-ghost use Rattle.sheet.specs.Decode.{Sized, sheet_of};
-ghost use Rattle.sheet.specs.Sheet.{WellFormed, count_entries, entry_at};
+ghost use Rattle.sheet.specs.Sheet.{count_entries, entry_at};
 ghost use Rattle.sheet.specs.Limits.{max_terms};
 ghost use Rattle.meaning.specs.Meaning.{Clashes};
 ghost use Rattle.settled.specs.Settled.{points, Apart};
@@ -28,17 +27,19 @@ ghost use Rattle.argued.specs.Argued.{StepsWritten, Closed, Argued};
 
 use layers::Bound;
 use paper::StepKind;
+use reading::Sheet;
 use sheet::EntryNumber;
 use sketch::ENDING;
 
 // Writes the record of the entries that the marks name, which clash, and answers its length. The table is the caller's to lend.
-pub fn argue(sheet: &[u8], room: &mut [u8], marks: &[bool], d: &mut [u32]) -> usize
-    requires sized { Sized sheet.now × WellFormed (sheet_of sheet.now) × (length d.old ≡ cells) }
-    requires sheet_in_bounds { (count_entries (sheet_of sheet.now) ≤ length marks.now) × (reason_room ≤ length room.old) }
-    requires clashes { Clashes (sheet_of sheet.now) (marked marks.now) }
-    ensures argued { Argued (sheet_of sheet.now) (marked marks.now) room.old room.new result }
-    ensures kept { Kept (points (sheet_of sheet.now)) d.old d.new }
+pub fn argue(sheet: &Sheet, room: &mut [u8], marks: &[bool], d: &mut [u32]) -> usize
+    requires sized { (length d.old ≡ cells) }
+    requires sheet_in_bounds { (count_entries sheet.now ≤ length marks.now) × (reason_room ≤ length room.old) }
+    requires clashes { Clashes sheet.now (marked marks.now) }
+    ensures argued { Argued sheet.now (marked marks.now) room.old room.new result }
+    ensures kept { Kept (points sheet.now) d.old d.new }
 {
+    sheet.formed();
     let mut list = [Bound::NOWHERE; jotted::MOST];
     // The names stay a list of their own: those of ties are given only when the ties are laid, and the bounds are only lent then.
     let mut names = [0u16; jotted::MOST];
@@ -49,7 +50,7 @@ pub fn argue(sheet: &[u8], room: &mut [u8], marks: &[bool], d: &mut [u32]) -> us
     let listed = g.listed;
     let put = g.put;
     let count = laid::lay(sheet, &list, &mut names, m, listed, &mut ties, &mut labels);
-    let k = paper::list(room, marks, reading::count_entries(sheet));
+    let k = paper::list(room, marks, sheet.count_entries());
     if put < listed {
         return by_round(
             sheet, room, k, &list, &names, m, listed, &ties, &labels, count, put, d,
@@ -62,14 +63,13 @@ pub fn argue(sheet: &[u8], room: &mut [u8], marks: &[bool], d: &mut [u32]) -> us
 }
 
 // The lowest ≠ entry of the set on terms tied at exactly its c, where there is one.
-fn broken(sheet: &[u8], set: &[bool], d: &[u32]) -> EntryNumber
-    requires sized { Sized sheet.now × WellFormed (sheet_of sheet.now) }
-    requires sheet_in_bounds { (count_entries (sheet_of sheet.now) ≤ length set.now) × (length d.now ≡ cells) }
-    requires closed_table { ClosedTable (points (sheet_of sheet.now)) (reach (points (sheet_of sheet.now))) (cell d.now) }
-    requires fact { Apart (sheet_of sheet.now) (marked set.now) (cell d.now) → ⊥ }
-    ensures { (result.0 < count_entries (sheet_of sheet.now)) × BrokenAt (sheet_of sheet.now) (marked set.now) (cell d.now) result.0 }
+fn broken(sheet: &Sheet, set: &[bool], d: &[u32]) -> EntryNumber
+    requires sheet_in_bounds { (count_entries sheet.now ≤ length set.now) × (length d.now ≡ cells) }
+    requires closed_table { ClosedTable (points sheet.now) (reach (points sheet.now)) (cell d.now) }
+    requires fact { Apart sheet.now (marked set.now) (cell d.now) → ⊥ }
+    ensures { (result.0 < count_entries sheet.now) × BrokenAt sheet.now (marked set.now) (cell d.now) result.0 }
 {
-    for e in 0..reading::count_entries(sheet) {
+    for e in 0..sheet.count_entries() {
         let entry = EntryNumber(e as u8);
         if ties::broken_at(sheet, set, d, entry) {
             return entry;
@@ -80,7 +80,7 @@ fn broken(sheet: &[u8], set: &[bool], d: &[u32]) -> EntryNumber
 
 // The steps, where bound e closes a walk under zero: they close whichever list this is a draft of.
 fn by_round(
-    sheet: &[u8],
+    sheet: &Sheet,
     room: &mut [u8],
     k: usize,
     list: &[Bound],
@@ -94,10 +94,10 @@ fn by_round(
     best: &mut [u32],
 ) -> usize
     requires { Ready sheet.now list.now names.now ties.now labels.now best.old room.old m listed count e k × (e < listed) }
-    ensures closed { (S : Set) → Drafted (sheet_of sheet.now) S list.now names.now ties.now labels.now m listed count → Closed (sheet_of sheet.now) S k room.old room.new result }
-    ensures kept { Kept (points (sheet_of sheet.now)) best.old best.new }
+    ensures closed { (S : Set) → Drafted sheet.now S list.now names.now ties.now labels.now m listed count → Closed sheet.now S k room.old room.new result }
+    ensures kept { Kept (points sheet.now) best.old best.new }
 {
-    let n = reading::count_terms(sheet) + 1;
+    let n = sheet.count_terms() + 1;
     let mut need = [false; cells::STRIDE];
     let mut walks = [0u16; sketch::WALKS];
     needed::round(list, names, n, e, best, &mut need, &mut walks);
@@ -111,7 +111,7 @@ fn by_round(
 // So where entry e is a ≠ entry on terms tied at exactly its c: by the path between them, or, where the ties don't have them in one group,
 // tied by walks first.
 fn by_entry(
-    sheet: &[u8],
+    sheet: &Sheet,
     room: &mut [u8],
     k: usize,
     list: &[Bound],
@@ -125,12 +125,12 @@ fn by_entry(
     best: &mut [u32],
 ) -> usize
     requires ready { Ready sheet.now list.now names.now ties.now labels.now best.old room.old m listed count listed k }
-    requires e_bound { (e.0 < count_entries (sheet_of sheet.now)) × Broken (cell best.old) (entry_at (sheet_of sheet.now) e.0) }
-    ensures closed { (S : Set) → S e.0 ≡ true → Drafted (sheet_of sheet.now) S list.now names.now ties.now labels.now m listed count → Closed (sheet_of sheet.now) S k room.old room.new result }
-    ensures kept { Kept (points (sheet_of sheet.now)) best.old best.new }
+    requires e_bound { (e.0 < count_entries sheet.now) × Broken (cell best.old) (entry_at sheet.now e.0) }
+    ensures closed { (S : Set) → S e.0 ≡ true → Drafted sheet.now S list.now names.now ties.now labels.now m listed count → Closed sheet.now S k room.old room.new result }
+    ensures kept { Kept (points sheet.now) best.old best.new }
 {
-    let n = reading::count_terms(sheet) + 1;
-    let entry = reading::entry_at(sheet, e);
+    let n = sheet.count_terms() + 1;
+    let entry = sheet.entry_at(e);
     let a = entry.a.0 as usize;
     let b = entry.b.0 as usize;
     let mut need = [false; cells::STRIDE];

@@ -5,13 +5,13 @@
 
 ghost use Rattle.std.specs.Prelude.{◌≡◌, true, ℕ, ◌^◌, ◌≤◌, ◌<◌, length, get_or};
 ghost use Rattle.order.specs.First.{marked};
-ghost use Rattle.sheet.specs.Decode.{Sized, sheet_of};
-ghost use Rattle.sheet.specs.Sheet.{WellFormed, count_entries};
+ghost use Rattle.sheet.specs.Sheet.{count_entries};
 ghost use Rattle.meets.specs.Met.{Met};
 ghost use Rattle.notes.specs.Limits.{places, denominator};
 ghost use Rattle.notes.specs.Search.{Worked};
 
 use notes::MEMORY;
+use reading::Sheet;
 
 // The denominator, and places for levels.
 pub const D: u64 = notes::D as u64;
@@ -19,13 +19,12 @@ pub const D: u64 = notes::D as u64;
 pub const PLACES: usize = notes::PLACES;
 
 // Leaves levels in v, and answers true where they meet the sheet on the set of entries.
-pub fn values(sheet: &[u8], set: &[bool], v: &mut [u64; PLACES]) -> bool
-    requires sized { Sized sheet.now × WellFormed (sheet_of sheet.now) }
-    requires sheet_in_bounds { count_entries (sheet_of sheet.now) ≤ length set.now }
-    ensures met { result ≡ true → Met (sheet_of sheet.now) (marked set.now) denominator v.new }
+pub fn values(sheet: &Sheet, set: &[bool], v: &mut [u64; PLACES]) -> bool
+    requires sheet_in_bounds { count_entries sheet.now ≤ length set.now }
+    ensures met { result ≡ true → Met sheet.now (marked set.now) denominator v.new }
     ensures worked { Worked v.old v.new }
 {
-    let n = reading::count_terms(sheet) + 1;
+    let n = sheet.count_terms() + 1;
     let mut m = [0usize; MEMORY];
     start(&mut m, n);
     if !search::search(&mut m, n, sheet, set) {

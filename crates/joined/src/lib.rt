@@ -8,30 +8,22 @@ ghost use Rattle.closure.specs.Closed.{Closed};
 ghost use Rattle.closure.specs.Table.{reach};
 ghost use Rattle.cells.specs.Cells.{stride, cells, cell};
 ghost use Rattle.sheet.specs.Decode.{Sized, decode_term, sheet_of};
-ghost use Rattle.sheet.specs.Sheet.{ArgumentsBelow, WellFormed, count_terms, term_at};
+ghost use Rattle.sheet.specs.Sheet.{ArgumentsBelow, count_terms, term_at};
 ghost use Rattle.meaning.specs.Decides.{Decides};
 ghost use Rattle.settled.specs.Settled.{points};
 ghost use Rattle.joined.specs.Joined.{Joined, JoinedAt};
 
+use reading::Sheet;
 use sheet::{Biased, Fields, TermNumber};
 
 // Whether terms i and j of a sheet have the same input.
-pub fn same_at(sheet: &[u8], d: &[u32], i: TermNumber, j: TermNumber) -> bool
-    requires sized { Sized sheet.now × WellFormed (sheet_of sheet.now) }
-    requires i_bound { (i.0 < count_terms (sheet_of sheet.now)) × (j.0 < count_terms (sheet_of sheet.now)) }
-    requires d_len { (length d.now ≡ cells) × Closed (points (sheet_of sheet.now)) (reach (points (sheet_of sheet.now))) (cell d.now) }
-    ensures { Decides (JoinedAt (sheet_of sheet.now) (cell d.now) i.0 j.0) result }
+pub fn same_at(sheet: &Sheet, d: &[u32], i: TermNumber, j: TermNumber) -> bool
+    requires i_bound { (i.0 < count_terms sheet.now) × (j.0 < count_terms sheet.now) }
+    requires d_len { (length d.now ≡ cells) × Closed (points sheet.now) (reach (points sheet.now)) (cell d.now) }
+    ensures { Decides (JoinedAt sheet.now (cell d.now) i.0 j.0) result }
 {
-    let n = reading::count_terms(sheet) + 1;
-    same_input(d, n, record_of(sheet, i), record_of(sheet, j))
-}
-
-// The record of term i.
-fn record_of(sheet: &[u8], i: TermNumber) -> Fields
-    requires { Sized sheet.now × (i.0 < count_terms (sheet_of sheet.now)) }
-    ensures { decode_term result ≡ term_at (sheet_of sheet.now) i.0 }
-{
-    reading::fields_at(sheet, 6 + 6 * (i.0 as usize))
+    let n = sheet.count_terms() + 1;
+    same_input(d, n, sheet.record_of(i), sheet.record_of(j))
 }
 
 // Whether two records are applications of one kind and symbol whose arguments are tied at 0.

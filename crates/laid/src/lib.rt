@@ -5,8 +5,7 @@
 
 ghost use Rattle.std.specs.Prelude.{◌≡◌, ◌+◌, ◌≤◌, ◌<◌, length};
 ghost use Rattle.cells.specs.Cells.{stride, cells};
-ghost use Rattle.sheet.specs.Decode.{Sized, sheet_of};
-ghost use Rattle.sheet.specs.Sheet.{WellFormed, count_terms};
+ghost use Rattle.sheet.specs.Sheet.{count_terms};
 ghost use Rattle.settled.specs.Settled.{points};
 ghost use Rattle.forest.specs.Labels.{Labelled};
 ghost use Rattle.jotted.specs.Jotted.{most};
@@ -15,12 +14,13 @@ ghost use Rattle.laid.specs.Laid.{Laid};
 ghost use Rattle.laid.specs.Longer.{Pushed, TiedUp, Alike, ArgumentsTied};
 
 use layers::Bound;
+use reading::Sheet;
 use sheet::{Term, TermNumber};
 use sketch::{BACK, TIE};
 
 // Lays the ties of the functions that are listed from bound m on, and names these bounds by their ties' numbers; how many ties there are.
 pub fn lay(
-    sheet: &[u8],
+    sheet: &Sheet,
     list: &[Bound],
     names: &mut [u16],
     m: usize,
@@ -28,12 +28,11 @@ pub fn lay(
     ties: &mut [u32],
     labels: &mut [u8],
 ) -> usize
-    requires sized { Sized sheet.now × WellFormed (sheet_of sheet.now) }
     requires list_len { (length list.now ≡ most) × (length names.old ≡ most) × (length ties.old ≡ stride) × (length labels.old ≡ cells) × (listed ≤ most) }
-    requires function_ties { FunctionTies (sheet_of sheet.now) list.now m listed }
-    ensures { Laid (sheet_of sheet.now) list.now names.old names.new ties.new labels.new m listed result }
+    requires function_ties { FunctionTies sheet.now list.now m listed }
+    ensures { Laid sheet.now list.now names.old names.new ties.new labels.new m listed result }
 {
-    let n = reading::count_terms(sheet) + 1;
+    let n = sheet.count_terms() + 1;
     forest::start(labels, n);
     let mut t = 0;
     for e in (m..listed).step_by(2) {
@@ -49,7 +48,7 @@ pub fn lay(
 
 // Ties the arguments of i and j by walks over the first e bounds, where they are in different groups.
 fn arguments(
-    sheet: &[u8],
+    sheet: &Sheet,
     ties: &mut [u32],
     labels: &mut [u8],
     n: usize,
@@ -58,13 +57,14 @@ fn arguments(
     j: usize,
     e: usize,
 ) -> usize
-    requires sized { Sized sheet.now × WellFormed (sheet_of sheet.now) × (n ≡ points (sheet_of sheet.now)) }
-    requires i_bound { (i < count_terms (sheet_of sheet.now)) × (j < count_terms (sheet_of sheet.now)) × Alike (sheet_of sheet.now) i j }
+    requires all_points { n ≡ points sheet.now }
+    requires i_bound { (i < count_terms sheet.now) × (j < count_terms sheet.now) × Alike sheet.now i j }
     requires ties_len { (length ties.old ≡ stride) × (length labels.old ≡ cells) × (e < most) × Labelled n ties.old labels.old t }
-    ensures { ArgumentsTied (sheet_of sheet.now) n i j e t ties.old labels.old ties.new labels.new result }
+    ensures { ArgumentsTied sheet.now n i j e t ties.old labels.old ties.new labels.new result }
 {
-    let own = reading::term_at(sheet, TermNumber(i as u8));
-    let other = reading::term_at(sheet, TermNumber(j as u8));
+    sheet.formed();
+    let own = sheet.term_at(TermNumber(i as u8));
+    let other = sheet.term_at(TermNumber(j as u8));
     match (own, other) {
         (Term::Apply(_, a), Term::Apply(_, b)) => {
             tie_up(ties, labels, n, t, a.0 as usize, b.0 as usize, e)

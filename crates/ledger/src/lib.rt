@@ -7,62 +7,59 @@ ghost use Rattle.kind.specs.Code.{none, Within};
 ghost use Rattle.kind.specs.Kind.{kind_of};
 ghost use Rattle.closure.specs.Table.{step};
 ghost use Rattle.order.specs.First.{Set, marked};
-ghost use Rattle.sheet.specs.Decode.{Sized, sheet_of};
 ghost use Rattle.sheet.specs.Says.{biased_says, term_says, entry_says};
-ghost use Rattle.sheet.specs.Sheet.{WellFormed, count_terms, count_entries};
+ghost use Rattle.sheet.specs.Sheet.{count_terms, count_entries};
 ghost use Rattle.jotted.specs.Jotted.{most};
 ghost use Rattle.ledger.specs.Ledger.{Ledger};
 ghost use Rattle.ledger.specs.Put.{item, two_ways, of_term, of_entry, Put};
 
 use gap::Gap;
 use layers::Bound;
+use reading::Sheet;
 use sheet::{Biased, Entry, EntryNumber, Relation, Term, TermNumber};
 use sketch::{BACK, TERM};
 
 // Lists the bounds of all terms and of the entries that the set marks, and answers how many there are.
-pub fn list(sheet: &[u8], set: &[bool], list: &mut [Bound], names: &mut [u16]) -> usize
-    requires sized { Sized sheet.now × WellFormed (sheet_of sheet.now) }
+pub fn list(sheet: &Sheet, set: &[bool], list: &mut [Bound], names: &mut [u16]) -> usize
     requires list_len { (length list.old ≡ most) × (length names.old ≡ most) }
-    requires sheet_in_bounds { count_entries (sheet_of sheet.now) ≤ length set.now }
-    ensures { Ledger (sheet_of sheet.now) (marked set.now) list.new names.new result (count_terms (sheet_of sheet.now)) (count_entries (sheet_of sheet.now)) }
+    requires sheet_in_bounds { count_entries sheet.now ≤ length set.now }
+    ensures { Ledger sheet.now (marked set.now) list.new names.new result (count_terms sheet.now) (count_entries sheet.now) }
 {
     let m = list_terms(sheet, list, names);
     list_entries(sheet, set, list, names, m)
 }
 
-fn list_terms(sheet: &[u8], list: &mut [Bound], names: &mut [u16]) -> usize
-    requires sized { Sized sheet.now × WellFormed (sheet_of sheet.now) }
+fn list_terms(sheet: &Sheet, list: &mut [Bound], names: &mut [u16]) -> usize
     requires list_len { (length list.old ≡ most) × (length names.old ≡ most) }
-    ensures { (S : Set) → Ledger (sheet_of sheet.now) S list.new names.new result (count_terms (sheet_of sheet.now)) 0 }
+    ensures { (S : Set) → Ledger sheet.now S list.new names.new result (count_terms sheet.now) 0 }
 {
-    let t = reading::count_terms(sheet);
+    let t = sheet.count_terms();
     let mut m = 0;
     for i in 0..t {
         let own = TermNumber(i as u8);
-        m = list_term(list, names, m, t as u8, own, reading::term_at(sheet, own));
+        m = list_term(list, names, m, t as u8, own, sheet.term_at(own));
     }
     m
 }
 
 fn list_entries(
-    sheet: &[u8],
+    sheet: &Sheet,
     set: &[bool],
     list: &mut [Bound],
     names: &mut [u16],
     from: usize,
 ) -> usize
-    requires sized { Sized sheet.now × WellFormed (sheet_of sheet.now) }
     requires list_len { (length list.old ≡ most) × (length names.old ≡ most) }
-    requires sheet_in_bounds { count_entries (sheet_of sheet.now) ≤ length set.now }
-    requires ledger { Ledger (sheet_of sheet.now) (marked set.now) list.old names.old from (count_terms (sheet_of sheet.now)) 0 }
-    ensures { Ledger (sheet_of sheet.now) (marked set.now) list.new names.new result (count_terms (sheet_of sheet.now)) (count_entries (sheet_of sheet.now)) }
+    requires sheet_in_bounds { count_entries sheet.now ≤ length set.now }
+    requires ledger { Ledger sheet.now (marked set.now) list.old names.old from (count_terms sheet.now) 0 }
+    ensures { Ledger sheet.now (marked set.now) list.new names.new result (count_terms sheet.now) (count_entries sheet.now) }
 {
-    let l = reading::count_entries(sheet);
+    let l = sheet.count_entries();
     let mut m = from;
     for e in 0..l {
         if set[e] {
             let own = EntryNumber(e as u8);
-            m = list_entry(list, names, m, own, reading::entry_at(sheet, own));
+            m = list_entry(list, names, m, own, sheet.entry_at(own));
         }
     }
     m

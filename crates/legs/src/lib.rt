@@ -5,11 +5,11 @@
 
 ghost use Rattle.std.specs.Prelude.{cond, ◌≡◌, ◌+◌, ◌≤◌, ◌<◌, length, set, take};
 ghost use Rattle.order.specs.First.{marked};
-ghost use Rattle.sheet.specs.Decode.{Sized, sheet_of};
 ghost use Rattle.sheet.specs.Says.{term_says, entry_says, biased_says};
-ghost use Rattle.sheet.specs.Sheet.{WellFormed, count_terms, count_entries};
+ghost use Rattle.sheet.specs.Sheet.{count_terms, count_entries};
 ghost use Rattle.legs.specs.Legs.{range, gap_for, word_of, way_of, gap_of, from_of, to_of, way_says, either_way, term_leg, entry_leg, tie_place, LaidEntries, LaidTerms, Laid, start_at, FurtherSays, WalkSays};
 
+use reading::Sheet;
 use sheet::{Biased, Entry, EntryNumber, Relation, Term, TermNumber};
 
 // Gaps are two's complement of five bytes: whatever ties and walks of a right reason come to lies within them.
@@ -78,32 +78,33 @@ pub fn gap_of(c: Biased) -> u64
 }
 
 // The legs of the entries that are listed, and of the terms. There are none of ties yet.
-pub fn lay(sheet: &[u8], listed: &[bool], legs: &mut [u64])
-    requires { Sized sheet.now × WellFormed (sheet_of sheet.now) × (length listed.now ≡ 256) × (length legs.old ≡ 768) }
-    ensures { Laid (sheet_of sheet.now) (marked listed.now) legs.old legs.new }
+pub fn lay(sheet: &Sheet, listed: &[bool], legs: &mut [u64])
+    requires { (length listed.now ≡ 256) × (length legs.old ≡ 768) }
+    ensures { Laid sheet.now (marked listed.now) legs.old legs.new }
 {
+    sheet.formed();
     lay_entries(sheet, listed, legs);
     lay_terms(sheet, legs);
 }
 
-fn lay_entries(sheet: &[u8], listed: &[bool], legs: &mut [u64])
-    requires { Sized sheet.now × WellFormed (sheet_of sheet.now) × (length listed.now ≡ 256) × (length legs.old ≡ 768) }
-    ensures { LaidEntries (sheet_of sheet.now) (marked listed.now) (count_entries (sheet_of sheet.now)) legs.old legs.new }
+fn lay_entries(sheet: &Sheet, listed: &[bool], legs: &mut [u64])
+    requires { (length listed.now ≡ 256) × (length legs.old ≡ 768) }
+    ensures { LaidEntries sheet.now (marked listed.now) (count_entries sheet.now) legs.old legs.new }
 {
-    let count = reading::count_entries(sheet);
+    let count = sheet.count_entries();
     for e in 0..count {
-        legs[e] = entry_leg(reading::entry_at(sheet, EntryNumber(e as u8)), listed[e]);
+        legs[e] = entry_leg(sheet.entry_at(EntryNumber(e as u8)), listed[e]);
     }
 }
 
-fn lay_terms(sheet: &[u8], legs: &mut [u64])
-    requires { Sized sheet.now × WellFormed (sheet_of sheet.now) × (length legs.old ≡ 768) }
-    ensures { LaidTerms (sheet_of sheet.now) (count_terms (sheet_of sheet.now)) legs.old legs.new }
+fn lay_terms(sheet: &Sheet, legs: &mut [u64])
+    requires { length legs.old ≡ 768 }
+    ensures { LaidTerms sheet.now (count_terms sheet.now) legs.old legs.new }
 {
-    let count = reading::count_terms(sheet);
+    let count = sheet.count_terms();
     for i in 0..count {
         let own = TermNumber(i as u8);
-        legs[TERMS + i] = term_leg(own, reading::term_at(sheet, own), count as u8);
+        legs[TERMS + i] = term_leg(own, sheet.term_at(own), count as u8);
     }
 }
 

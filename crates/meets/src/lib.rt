@@ -5,26 +5,25 @@
 
 ghost use Rattle.std.specs.Prelude.{◌≡◌, ℕ, ◌+◌, ◌^◌, ◌≤◌, ◌<◌, length, get_or};
 ghost use Rattle.order.specs.First.{marked};
-ghost use Rattle.sheet.specs.Decode.{Sized, sheet_of};
-ghost use Rattle.sheet.specs.Sheet.{WellFormed, count_terms, count_entries};
+ghost use Rattle.sheet.specs.Sheet.{count_terms, count_entries};
 ghost use Rattle.meaning.specs.Decides.{Decides};
 ghost use Rattle.keys.specs.Ready.{Near, Ready};
 ghost use Rattle.meets.specs.Met.{Met};
 ghost use Rattle.meets.specs.Parts.{TermsMet, EntriesMet};
 
+use reading::Sheet;
 use sheet::{EntryNumber, TermNumber};
 
 // The answer's limit on a value, 2 ^ 40.
 const LIMIT: u64 = keys::LIMIT;
 
 // Whether D and the levels' values meet the sheet on the set of entries, within the answer's limits.
-pub fn check(sheet: &[u8], set: &[bool], d: u64, v: &[u64]) -> bool
-    requires sized { Sized sheet.now × WellFormed (sheet_of sheet.now) }
-    requires sheet_in_bounds { (count_entries (sheet_of sheet.now) ≤ length set.now) × (count_terms (sheet_of sheet.now) < length v.now) }
-    requires le_d { (1 ≤ d) × (d ≤ 65535) × ((i : ℕ) → i ≤ count_terms (sheet_of sheet.now) → get_or v.now i 0 < 2 ^ 62) }
-    ensures { Decides (Met (sheet_of sheet.now) (marked set.now) d v.now) result }
+pub fn check(sheet: &Sheet, set: &[bool], d: u64, v: &[u64]) -> bool
+    requires sheet_in_bounds { (count_entries sheet.now ≤ length set.now) × (count_terms sheet.now < length v.now) }
+    requires le_d { (1 ≤ d) × (d ≤ 65535) × ((i : ℕ) → i ≤ count_terms sheet.now → get_or v.now i 0 < 2 ^ 62) }
+    ensures { Decides (Met sheet.now (marked set.now) d v.now) result }
 {
-    let t = reading::count_terms(sheet);
+    let t = sheet.count_terms();
     limits(v, t) && terms(sheet, d, v, t) && entries(sheet, set, d, v, t)
 }
 
@@ -42,15 +41,14 @@ fn limits(v: &[u64], t: usize) -> bool
 }
 
 // Each term is read once: its keys, those before it that have the same, and its own rule.
-fn terms(sheet: &[u8], d: u64, v: &[u64], t: usize) -> bool
-    requires sized { Sized sheet.now × WellFormed (sheet_of sheet.now) }
-    requires t_value { (t ≡ count_terms (sheet_of sheet.now)) × (d ≤ 65535) × Ready v.now t }
-    ensures { Decides (TermsMet (sheet_of sheet.now) d v.now t) result }
+fn terms(sheet: &Sheet, d: u64, v: &[u64], t: usize) -> bool
+    requires t_value { (t ≡ count_terms sheet.now) × (d ≤ 65535) × Ready v.now t }
+    ensures { Decides (TermsMet sheet.now d v.now t) result }
 {
     let mut keys = [0u64; shelves::KEYS];
     let mut shelves = [false; shelves::SHELVES];
-    for i in 0..t {
-        let x = reading::term_at(sheet, TermNumber(i as u8));
+    for i in 0..sheet.count_terms() {
+        let x = sheet.term_at(TermNumber(i as u8));
         let level = v[i];
         let input = keys::input_of(v, t, x);
         let agrees = shelves::row(
@@ -70,14 +68,14 @@ fn terms(sheet: &[u8], d: u64, v: &[u64], t: usize) -> bool
 }
 
 // Every entry of the set is true.
-fn entries(sheet: &[u8], set: &[bool], d: u64, v: &[u64], t: usize) -> bool
-    requires sized { Sized sheet.now × WellFormed (sheet_of sheet.now) × (count_entries (sheet_of sheet.now) ≤ length set.now) }
-    requires t_value { (t ≡ count_terms (sheet_of sheet.now)) × (d ≤ 65535) × Ready v.now t }
-    ensures { Decides (EntriesMet (sheet_of sheet.now) (marked set.now) d v.now (count_entries (sheet_of sheet.now))) result }
+fn entries(sheet: &Sheet, set: &[bool], d: u64, v: &[u64], t: usize) -> bool
+    requires sheet_in_bounds { count_entries sheet.now ≤ length set.now }
+    requires t_value { (t ≡ count_terms sheet.now) × (d ≤ 65535) × Ready v.now t }
+    ensures { Decides (EntriesMet sheet.now (marked set.now) d v.now (count_entries sheet.now)) result }
 {
-    let l = reading::count_entries(sheet);
+    let l = sheet.count_entries();
     for e in 0..l {
-        if set[e] && !rules::entry_true(v, t, d, reading::entry_at(sheet, EntryNumber(e as u8))) {
+        if set[e] && !rules::entry_true(v, t, d, sheet.entry_at(EntryNumber(e as u8))) {
             return false;
         }
     }

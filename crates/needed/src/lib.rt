@@ -6,8 +6,7 @@
 
 ghost use Rattle.std.specs.Prelude.{◌≡◌, ℕ, ◌+◌, ◌*◌, ◌%◌, ◌≤◌, ◌<◌, [], ◌∷◌, length, get_or};
 ghost use Rattle.cells.specs.Cells.{stride, cells, Kept};
-ghost use Rattle.sheet.specs.Decode.{Sized, sheet_of};
-ghost use Rattle.sheet.specs.Sheet.{WellFormed, count_terms, term_at};
+ghost use Rattle.sheet.specs.Sheet.{count_terms, term_at};
 ghost use Rattle.settled.specs.Settled.{points};
 ghost use Rattle.layers.specs.Bounds.{bounds, from_at, to_at, Sound, Reachable};
 ghost use Rattle.sketch.specs.Sketch.{place, ending, walks_length};
@@ -17,6 +16,7 @@ ghost use Rattle.needed.specs.Needed.{Marks, Found, FoundBoth, FoundRound, Gathe
 ghost use Rattle.needed.specs.Support.{InOneGroup, Grounds, Argued, Supported};
 
 use layers::Bound;
+use reading::Sheet;
 use sheet::{Term, TermNumber};
 use sketch::{ENDING, PLACE, TIE};
 
@@ -67,7 +67,7 @@ pub fn both(
 
 // All that the needed ones of the first count ties rest on, from the last down.
 pub fn gather(
-    sheet: &[u8],
+    sheet: &Sheet,
     list: &[Bound],
     names: &[u16],
     m: usize,
@@ -79,15 +79,15 @@ pub fn gather(
     need: &mut [bool],
     walks: &mut [u16],
 )
-    requires sized { Sized sheet.now × WellFormed (sheet_of sheet.now) × (length best.old ≡ cells) }
-    requires sound { Sound (points (sheet_of sheet.now)) (bounds listed list.now) × (listed ≤ length names.now) }
-    requires ties_len { (length ties.now ≡ stride) × (length labels.now ≡ cells) × (count ≤ count_terms (sheet_of sheet.now)) × (count ≤ length need.old) × (walks_length ≤ length walks.old) }
-    requires laid { Laid (sheet_of sheet.now) list.now names.now names.now ties.now labels.now m listed count }
+    requires best_len { length best.old ≡ cells }
+    requires sound { Sound (points sheet.now) (bounds listed list.now) × (listed ≤ length names.now) }
+    requires ties_len { (length ties.now ≡ stride) × (length labels.now ≡ cells) × (count ≤ count_terms sheet.now) × (count ≤ length need.old) × (walks_length ≤ length walks.old) }
+    requires laid { Laid sheet.now list.now names.now names.now ties.now labels.now m listed count }
     requires by_index { (e : ℕ) → e < m → get_or names.now e 0 < 1024 }
-    ensures gathered { Gathered (sheet_of sheet.now) list.now names.now ties.now count walks.old walks.new need.old need.new }
-    ensures kept { Kept (points (sheet_of sheet.now)) best.old best.new }
+    ensures gathered { Gathered sheet.now list.now names.now ties.now count walks.old walks.new need.old need.new }
+    ensures kept { Kept (points sheet.now) best.old best.new }
 {
-    let n = reading::count_terms(sheet) + 1;
+    let n = sheet.count_terms() + 1;
     for t in (0..count).rev() {
         if need[t] {
             support(
@@ -99,7 +99,7 @@ pub fn gather(
 
 // What tie t rests on.
 fn support(
-    sheet: &[u8],
+    sheet: &Sheet,
     list: &[Bound],
     names: &[u16],
     n: usize,
@@ -111,13 +111,14 @@ fn support(
     need: &mut [bool],
     walks: &mut [u16],
 )
-    requires sized { Sized sheet.now × WellFormed (sheet_of sheet.now) × (n ≡ points (sheet_of sheet.now)) × (tie ≡ get_or ties.now t 0) }
-    requires ties_len { (length ties.now ≡ stride) × (length labels.now ≡ cells) × (t < count_terms (sheet_of sheet.now)) × (t ≤ length need.old) }
+    requires all_points { (n ≡ points sheet.now) × (tie ≡ get_or ties.now t 0) }
+    requires ties_len { (length ties.now ≡ stride) × (length labels.now ≡ cells) × (t < count_terms sheet.now) × (t ≤ length need.old) }
     requires best_len { (length best.old ≡ cells) × (walks_length ≤ length walks.old) }
-    requires grounds { Grounds (sheet_of sheet.now) list.now names.now ties.now labels.now t }
-    ensures supported { Supported (sheet_of sheet.now) list.now names.now ties.now t walks.old walks.new need.old need.new }
+    requires grounds { Grounds sheet.now list.now names.now ties.now labels.now t }
+    ensures supported { Supported sheet.now list.now names.now ties.now t walks.old walks.new need.old need.new }
     ensures kept { Kept n best.old best.new }
 {
+    sheet.formed();
     let a = sketch::left(tie);
     let b = sketch::right(tie);
     // By functions, or by walks over the first m bounds.
@@ -129,7 +130,7 @@ fn support(
 
 // The paths between the arguments of two applications.
 fn arguments(
-    sheet: &[u8],
+    sheet: &Sheet,
     ties: &[u32],
     labels: &[u8],
     need: &mut [bool],
@@ -138,13 +139,14 @@ fn arguments(
     i: usize,
     j: usize,
 )
-    requires sized { Sized sheet.now × WellFormed (sheet_of sheet.now) × (n ≡ points (sheet_of sheet.now)) × (i < count_terms (sheet_of sheet.now)) × (j < count_terms (sheet_of sheet.now)) }
+    requires all_points { (n ≡ points sheet.now) × (i < count_terms sheet.now) × (j < count_terms sheet.now) }
     requires labels_len { (length labels.now ≡ cells) × (t < n) × (t ≤ length ties.now) × (t ≤ length need.old) }
-    requires labelled { Labelled n ties.now labels.now t × InOneGroup labels.now t (term_at (sheet_of sheet.now) i) (term_at (sheet_of sheet.now) j) }
-    ensures { Argued ties.now t (term_at (sheet_of sheet.now) i) (term_at (sheet_of sheet.now) j) need.old need.new }
+    requires labelled { Labelled n ties.now labels.now t × InOneGroup labels.now t (term_at sheet.now i) (term_at sheet.now j) }
+    ensures { Argued ties.now t (term_at sheet.now i) (term_at sheet.now j) need.old need.new }
 {
-    let own = reading::term_at(sheet, TermNumber(i as u8));
-    let other = reading::term_at(sheet, TermNumber(j as u8));
+    sheet.formed();
+    let own = sheet.term_at(TermNumber(i as u8));
+    let other = sheet.term_at(TermNumber(j as u8));
     match (own, other) {
         (Term::Apply(_, a), Term::Apply(_, b)) => {
             forest::mark(labels, ties, need, n, t, a.0 as usize, b.0 as usize);

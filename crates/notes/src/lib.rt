@@ -5,14 +5,14 @@
 #![tactic(auto)]
 
 ghost use Rattle.std.specs.Prelude.{◌≡◌, ◌+◌, ◌*◌, ◌%◌, ◌≤◌, ◌<◌, length};
-ghost use Rattle.sheet.specs.Decode.{Sized, sheet_of};
 ghost use Rattle.sheet.specs.Limits.{max_terms};
 ghost use Rattle.sheet.specs.Says.{term_says};
-ghost use Rattle.sheet.specs.Sheet.{WellFormed, count_entries};
+ghost use Rattle.sheet.specs.Sheet.{count_entries};
 ghost use Rattle.notes.specs.Limits.{places, memory, slacks};
 ghost use Rattle.notes.specs.Noted.{bound_of, application_of, noted_of};
 ghost use Rattle.notes.specs.Search.{Worked};
 
+use reading::Sheet;
 use sheet::{Biased, Entry, EntryNumber, Relation, Term, TermNumber};
 
 // Places for points: more than there are, so that what is left of any number below it is a place, and a power of two as long as the limit
@@ -101,17 +101,16 @@ pub fn tie(m: &mut [usize; MEMORY], at: usize, a: usize, b: usize, c: Biased) ->
 
 // The bounds of the terms, from the first place on, and the applications; answers the place behind the bounds. The memory begins as
 // zeros, so that none stands behind the last application.
-pub fn note_terms(m: &mut [usize; MEMORY], sheet: &[u8]) -> usize
-    requires { Sized sheet.now × WellFormed (sheet_of sheet.now) }
+pub fn note_terms(m: &mut [usize; MEMORY], sheet: &Sheet) -> usize
     ensures answer { result ≤ memory }
     ensures worked { Worked m.old m.new }
 {
-    let t = reading::count_terms(sheet);
+    let t = sheet.count_terms();
     let mut at = BOUNDS;
     let mut applied = APPLICATIONS;
     for i in 0..t {
         let own = TermNumber(i as u8);
-        let term = reading::term_at(sheet, own);
+        let term = sheet.term_at(own);
         at = note_term(m, at, own, t, term);
         if let Some(application) = application_of(own, term) {
             m[applied] = application;
@@ -135,18 +134,17 @@ fn note_term(m: &mut [usize; MEMORY], at: usize, i: TermNumber, z: usize, x: Ter
 }
 
 // The bounds of the set's entries, from a place on; answers the place behind them.
-pub fn note_entries(m: &mut [usize; MEMORY], sheet: &[u8], set: &[bool], before: usize) -> usize
-    requires sized { Sized sheet.now × WellFormed (sheet_of sheet.now) }
-    requires sheet_in_bounds { (count_entries (sheet_of sheet.now) ≤ length set.now) × (before ≤ memory) }
+pub fn note_entries(m: &mut [usize; MEMORY], sheet: &Sheet, set: &[bool], before: usize) -> usize
+    requires sheet_in_bounds { (count_entries sheet.now ≤ length set.now) × (before ≤ memory) }
     ensures answer { result ≤ memory }
     ensures worked { Worked m.old m.new }
 {
-    let l = reading::count_entries(sheet);
+    let l = sheet.count_entries();
     let mut at = before;
     for e in 0..l {
         if set[e] {
             let own = EntryNumber(e as u8);
-            at = note_entry(m, at, own, reading::entry_at(sheet, own));
+            at = note_entry(m, at, own, sheet.entry_at(own));
         }
     }
     at

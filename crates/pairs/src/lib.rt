@@ -5,11 +5,11 @@
 ghost use Rattle.std.specs.Prelude.{◌≡◌, ◌≤◌, ◌<◌, length};
 ghost use Rattle.closure.specs.Table.{Table};
 ghost use Rattle.cells.specs.Cells.{stride, cells, cell};
-ghost use Rattle.sheet.specs.Decode.{Sized, sheet_of};
-ghost use Rattle.sheet.specs.Sheet.{WellFormed, count_terms};
+ghost use Rattle.sheet.specs.Sheet.{count_terms};
 ghost use Rattle.settled.specs.Settled.{points};
 ghost use Rattle.pairs.specs.Passing.{PairTied, Passing, Tying};
 
+use reading::Sheet;
 use sheet::{Biased, TermNumber};
 
 // No levels meet the table with such terms tied.
@@ -17,15 +17,15 @@ use sheet::{Biased, TermNumber};
 pub struct Clash;
 
 // Ties terms i and j where they have the same input and aren't tied yet, and answers whether it did.
-pub fn pass_pair(sheet: &[u8], d: &mut [u32], i: TermNumber, j: TermNumber) -> Result<bool, Clash>
-    requires sized { Sized sheet.now × WellFormed (sheet_of sheet.now) × (i.0 < count_terms (sheet_of sheet.now)) × (j.0 < i.0) }
-    requires d_len { (length d.old ≡ cells) × Table (points (sheet_of sheet.now)) (cell d.old) }
-    ensures { Passing (sheet_of sheet.now) (PairTied (sheet_of sheet.now) i.0 j.0) d.old d.new result }
+pub fn pass_pair(sheet: &Sheet, d: &mut [u32], i: TermNumber, j: TermNumber) -> Result<bool, Clash>
+    requires i_bound { (i.0 < count_terms sheet.now) × (j.0 < i.0) }
+    requires d_len { (length d.old ≡ cells) × Table (points sheet.now) (cell d.old) }
+    ensures { Passing sheet.now (PairTied sheet.now i.0 j.0) d.old d.new result }
 {
+    let n = sheet.count_terms() + 1;
     if !joined::same_at(sheet, d, i, j) {
         return Ok(false);
     }
-    let n = reading::count_terms(sheet) + 1;
     tie_new(d, n, i.0 as usize, j.0 as usize)
 }
 

@@ -6,19 +6,17 @@
 ghost use Rattle.std.specs.Prelude.{◌≡◌, length};
 ghost use Rattle.closure.specs.Table.{Table};
 ghost use Rattle.cells.specs.Cells.{cells, cell};
-ghost use Rattle.sheet.specs.Decode.{Sized, sheet_of};
-ghost use Rattle.sheet.specs.Sheet.{WellFormed};
 ghost use Rattle.settled.specs.Settled.{points};
 ghost use Rattle.pairs.specs.Passing.{FunctionsPut, AllTied, Passing};
 
 use pairs::Clash;
+use reading::Sheet;
 use sheet::TermNumber;
 
 // Passes equalities until a pass finds nothing new.
-pub fn settle(sheet: &[u8], d: &mut [u32]) -> bool
-    requires sized { Sized sheet.now × WellFormed (sheet_of sheet.now) }
-    requires d_len { (length d.old ≡ cells) × Table (points (sheet_of sheet.now)) (cell d.old) }
-    ensures { FunctionsPut (sheet_of sheet.now) d.old d.new result }
+pub fn settle(sheet: &Sheet, d: &mut [u32]) -> bool
+    requires d_len { (length d.old ≡ cells) × Table (points sheet.now) (cell d.old) }
+    ensures { FunctionsPut sheet.now d.old d.new result }
 {
     // A loop: how many passes it takes is not known before it runs.
     loop {
@@ -31,14 +29,13 @@ pub fn settle(sheet: &[u8], d: &mut [u32]) -> bool
 }
 
 // One pass over the terms: whether it tied something.
-fn pass(sheet: &[u8], d: &mut [u32]) -> Result<bool, Clash>
-    requires sized { Sized sheet.now × WellFormed (sheet_of sheet.now) }
-    requires d_len { (length d.old ≡ cells) × Table (points (sheet_of sheet.now)) (cell d.old) }
-    ensures { Passing (sheet_of sheet.now) (AllTied (sheet_of sheet.now)) d.old d.new result }
+fn pass(sheet: &Sheet, d: &mut [u32]) -> Result<bool, Clash>
+    requires d_len { (length d.old ≡ cells) × Table (points sheet.now) (cell d.old) }
+    ensures { Passing sheet.now (AllTied sheet.now) d.old d.new result }
 {
     let mut keys = [0u64; sheet::MAX_TERMS];
     let mut fresh = false;
-    for i in 0..reading::count_terms(sheet) {
+    for i in 0..sheet.count_terms() {
         fresh |= groups::pass_term(sheet, &mut keys, d, TermNumber(i as u8))?;
     }
     Ok(fresh)

@@ -3,11 +3,81 @@
 #![tactic(auto)]
 
 ghost use Rattle.std.specs.Prelude.{◌≡◌, ◌+◌, ◌≤◌, ◌<◌, length};
-ghost use Rattle.sheet.specs.Decode.{Sized, fields_at, sheet_of};
+ghost use Rattle.sheet.specs.Decode.{Sized, fields_at, decode_term, sheet_of};
 ghost use Rattle.sheet.specs.Says.{term_says, entry_says};
-ghost use Rattle.sheet.specs.Sheet.{count_terms, count_entries, term_at, entry_at};
+ghost use Rattle.sheet.specs.Sheet.{WellFormed, count_terms, count_entries, term_at, entry_at};
 
 use sheet::{Entry, EntryNumber, Fields, Term, TermNumber};
+use std::marker::Model;
+
+// A sheet that the table doesn't send back. Contracts see it as the abstract sheet that its bytes decode to.
+#[derive(Drop)]
+pub struct Sheet<'a> {
+    bytes: &'a [u8],
+}
+
+impl<'a> Model for Sheet<'a> {
+    ghost use Rattle.sheet.specs.Sheet.{Sheet, WellFormed};
+    ghost use Rattle.sheet.specs.Decode.{Sized, sheet_of};
+
+    ghost Value = { Sheet };
+
+    ghost view = { λ s. sheet_of s.bytes.now };
+
+    ghost invariant = { λ s. Sized s.bytes.now × WellFormed (sheet_of s.bytes.now) };
+}
+
+impl<'a> Sheet<'a> {
+    pub fn of(bytes: &'a [u8]) -> Sheet<'a>
+        requires { Sized bytes.now × WellFormed (sheet_of bytes.now) }
+        ensures { result ≡ sheet_of bytes.now }
+    {
+        Sheet { bytes }
+    }
+
+    // What each of them is, for who counts nothing.
+    pub fn formed(&self)
+        ensures { WellFormed self.now }
+    {
+        let _ = &self.bytes;
+    }
+
+    pub fn count_terms(&self) -> usize
+        ensures count { (result ≡ count_terms self.now) × (result < 256) }
+        ensures formed { WellFormed self.now }
+    {
+        count_terms(self.bytes)
+    }
+
+    pub fn count_entries(&self) -> usize
+        ensures count { (result ≡ count_entries self.now) × (result < 256) }
+        ensures formed { WellFormed self.now }
+    {
+        count_entries(self.bytes)
+    }
+
+    pub fn term_at(&self, i: TermNumber) -> Term
+        requires { i.0 < count_terms self.now }
+        ensures { term_says result ≡ term_at self.now i.0 }
+    {
+        term_at(self.bytes, i)
+    }
+
+    // The record of term i.
+    pub fn record_of(&self, i: TermNumber) -> Fields
+        requires { i.0 < count_terms self.now }
+        ensures { decode_term result ≡ term_at self.now i.0 }
+    {
+        fields_at(self.bytes, 6 + 6 * i.0 as usize)
+    }
+
+    pub fn entry_at(&self, e: EntryNumber) -> Entry
+        requires { e.0 < count_entries self.now }
+        ensures { entry_says result ≡ entry_at self.now e.0 }
+    {
+        entry_at(self.bytes, e)
+    }
+}
 
 pub fn count_terms(sheet: &[u8]) -> usize
     requires { 6 ≤ length sheet.now }

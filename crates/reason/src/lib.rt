@@ -4,10 +4,9 @@
 #![tactic(auto)]
 
 ghost use Rattle.std.specs.Prelude.{◌≡◌};
-ghost use Rattle.sheet.specs.Decode.{Sized, sheet_of};
-ghost use Rattle.sheet.specs.Sheet.{WellFormed};
 ghost use Rattle.reason.specs.Reasoned.{number_of, place_of, Told, Reasoned};
 
+use reading::Sheet;
 use refusal::Refusal;
 use verdict::Verdict;
 
@@ -49,16 +48,16 @@ pub fn reason(sheet: &[u8], room: &mut [u8]) -> Reply
     ensures { Reasoned sheet.now room.old room.new (number_of result) (place_of result) }
 {
     match refusal::check(sheet, sheet::ROOM_NEEDED) {
-        Ok(()) => tell(sheet, room),
+        Ok(()) => tell(&Sheet::of(sheet), room),
         Err(why) => Reply::Refused(why),
     }
 }
 
 // The reply to a sheet that isn't sent back.
-fn tell(sheet: &[u8], room: &mut [u8]) -> Reply
-    requires { Sized sheet.now × WellFormed (sheet_of sheet.now) }
-    ensures { Told (sheet_of sheet.now) room.old room.new (number_of result) (place_of result) }
+fn tell(sheet: &Sheet, room: &mut [u8]) -> Reply
+    ensures { Told sheet.now room.old room.new (number_of result) (place_of result) }
 {
+    sheet.formed();
     let all = [true; sheet::MAX_ENTRIES];
     let mut v = [0u64; guess::PLACES];
     if guess::values(sheet, &all, &mut v) {
@@ -68,10 +67,10 @@ fn tell(sheet: &[u8], room: &mut [u8]) -> Reply
 }
 
 // So by the table, which decides.
-fn search(sheet: &[u8], room: &mut [u8]) -> Reply
-    requires { Sized sheet.now × WellFormed (sheet_of sheet.now) }
-    ensures { Told (sheet_of sheet.now) room.old room.new (number_of result) (place_of result) }
+fn search(sheet: &Sheet, room: &mut [u8]) -> Reply
+    ensures { Told sheet.now room.old room.new (number_of result) (place_of result) }
 {
+    sheet.formed();
     let mut marks = [true; sheet::MAX_ENTRIES];
     let mut d = [0u32; table::CELLS];
     match verdict::on(sheet, &marks, &mut d) {

@@ -7,22 +7,22 @@ ghost use Rattle.std.specs.Prelude.{◌≡◌, ◌*◌, ◌≤◌, ◌<◌, leng
 ghost use Rattle.closure.specs.Closed.{Closed};
 ghost use Rattle.closure.specs.Table.{reach};
 ghost use Rattle.cells.specs.Cells.{stride, cells, cell};
-ghost use Rattle.sheet.specs.Decode.{Sized, sheet_of};
 ghost use Rattle.sheet.specs.Says.{term_says};
-ghost use Rattle.sheet.specs.Sheet.{ArgumentsBelow, WellFormed, count_terms, term_at};
+ghost use Rattle.sheet.specs.Sheet.{ArgumentsBelow, count_terms, term_at};
 ghost use Rattle.settled.specs.Settled.{points};
 ghost use Rattle.roots.specs.Keyed.{Root, Keyed};
 
+use reading::Sheet;
 use sheet::{Biased, Term, TermNumber};
 
 // The key of term i's input, or 0 where it has none.
-pub fn key_at(sheet: &[u8], d: &[u32], i: TermNumber) -> u64
-    requires sized { Sized sheet.now × WellFormed (sheet_of sheet.now) × (i.0 < count_terms (sheet_of sheet.now)) }
-    requires d_len { (length d.now ≡ cells) × Closed (points (sheet_of sheet.now)) (reach (points (sheet_of sheet.now))) (cell d.now) }
-    ensures { Keyed (cell d.now) (term_at (sheet_of sheet.now) i.0) result × (result < 513 * 65536) }
+pub fn key_at(sheet: &Sheet, d: &[u32], i: TermNumber) -> u64
+    requires i_bound { i.0 < count_terms sheet.now }
+    requires d_len { (length d.now ≡ cells) × Closed (points sheet.now) (reach (points sheet.now)) (cell d.now) }
+    ensures { Keyed (cell d.now) (term_at sheet.now i.0) result × (result < 513 * 65536) }
 {
-    let n = reading::count_terms(sheet) + 1;
-    key_of(d, n, reading::term_at(sheet, i))
+    let n = sheet.count_terms() + 1;
+    key_of(d, n, sheet.term_at(i))
 }
 
 fn key_of(d: &[u32], n: usize, t: Term) -> u64

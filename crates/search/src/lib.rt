@@ -5,20 +5,19 @@
 #![tactic(auto)]
 
 ghost use Rattle.std.specs.Prelude.{◌≤◌, length};
-ghost use Rattle.sheet.specs.Decode.{Sized, sheet_of};
-ghost use Rattle.sheet.specs.Sheet.{WellFormed, count_entries};
+ghost use Rattle.sheet.specs.Sheet.{count_entries};
 ghost use Rattle.notes.specs.Limits.{places, memory};
 ghost use Rattle.notes.specs.Search.{Worked};
 
 use notes::{MEMORY, PLACES};
+use reading::Sheet;
 
 // The search gives up after so many sweeps.
 const TURNS: usize = 400;
 
 // Notes what the sheet asks, and lowers the levels of its points, n in all, by it.
-pub fn search(m: &mut [usize; MEMORY], n: usize, sheet: &[u8], set: &[bool]) -> bool
-    requires sized { Sized sheet.now × WellFormed (sheet_of sheet.now) }
-    requires sheet_in_bounds { (count_entries (sheet_of sheet.now) ≤ length set.now) × (n ≤ places) }
+pub fn search(m: &mut [usize; MEMORY], n: usize, sheet: &Sheet, set: &[bool]) -> bool
+    requires sheet_in_bounds { (count_entries sheet.now ≤ length set.now) × (n ≤ places) }
     ensures { Worked m.old m.new }
 {
     let terms = notes::note_terms(m, sheet);

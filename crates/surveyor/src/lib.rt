@@ -13,6 +13,7 @@ ghost use Rattle.surveyor.specs.Inside.{RisesSays, ReadySays, Begun, Ended, Answ
 
 use legs::LEGS;
 use links::LINKS;
+use reading::Sheet;
 use refusal::Refusal;
 use routes::PATHS;
 use stated::Step;
@@ -78,7 +79,7 @@ fn prepare(sheet: &[u8], list: &[u8], listed: &mut [bool], legs: &mut [u64]) -> 
     if !rises(list, sheet[4], listed) {
         return Err(Survey::NoList);
     }
-    legs::lay(sheet, listed, legs);
+    legs::lay(&Sheet::of(sheet), listed, legs);
     Ok(())
 }
 

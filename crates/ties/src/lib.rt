@@ -7,14 +7,14 @@ ghost use Rattle.closure.specs.Closed.{Closed, TiedAt};
 ghost use Rattle.closure.specs.Table.{reach};
 ghost use Rattle.cells.specs.Cells.{stride, cells, cell};
 ghost use Rattle.order.specs.First.{marked};
-ghost use Rattle.sheet.specs.Decode.{Sized, sheet_of};
 ghost use Rattle.sheet.specs.Says.{biased_says};
-ghost use Rattle.sheet.specs.Sheet.{WellFormed, count_entries};
+ghost use Rattle.sheet.specs.Sheet.{count_entries};
 ghost use Rattle.meaning.specs.Decides.{Decides};
 ghost use Rattle.settled.specs.Settled.{points};
 ghost use Rattle.ties.specs.Ties.{BrokenAt, Checked};
 
 use gap::Gap;
+use reading::Sheet;
 use sheet::{Biased, EntryNumber, Relation};
 
 // Whether a = b + c is in the table.
@@ -27,13 +27,12 @@ pub fn tied_at(d: &[u32], n: usize, a: usize, b: usize, c: Biased) -> bool
 }
 
 // Whether no ≠ entry of the set is on terms tied at exactly its c.
-pub fn apart(sheet: &[u8], set: &[bool], d: &[u32]) -> bool
-    requires sized { Sized sheet.now × WellFormed (sheet_of sheet.now) }
-    requires sheet_in_bounds { (count_entries (sheet_of sheet.now) ≤ length set.now) × (length d.now ≡ cells) }
-    requires closed { Closed (points (sheet_of sheet.now)) (reach (points (sheet_of sheet.now))) (cell d.now) }
-    ensures { Checked (sheet_of sheet.now) (marked set.now) (cell d.now) result }
+pub fn apart(sheet: &Sheet, set: &[bool], d: &[u32]) -> bool
+    requires sheet_in_bounds { (count_entries sheet.now ≤ length set.now) × (length d.now ≡ cells) }
+    requires closed { Closed (points sheet.now) (reach (points sheet.now)) (cell d.now) }
+    ensures { Checked sheet.now (marked set.now) (cell d.now) result }
 {
-    for e in 0..reading::count_entries(sheet) {
+    for e in 0..sheet.count_entries() {
         if broken_at(sheet, set, d, EntryNumber(e as u8)) {
             return false;
         }
@@ -42,17 +41,16 @@ pub fn apart(sheet: &[u8], set: &[bool], d: &[u32]) -> bool
 }
 
 // Whether entry e is in the set, and a ≠ entry on terms tied at exactly its c.
-pub fn broken_at(sheet: &[u8], set: &[bool], d: &[u32], e: EntryNumber) -> bool
-    requires sized { Sized sheet.now × WellFormed (sheet_of sheet.now) }
-    requires e_bound { (e.0 < count_entries (sheet_of sheet.now)) × (e.0 < length set.now) × (length d.now ≡ cells) }
-    requires closed { Closed (points (sheet_of sheet.now)) (reach (points (sheet_of sheet.now))) (cell d.now) }
-    ensures { Decides (BrokenAt (sheet_of sheet.now) (marked set.now) (cell d.now) e.0) result }
+pub fn broken_at(sheet: &Sheet, set: &[bool], d: &[u32], e: EntryNumber) -> bool
+    requires e_bound { (e.0 < count_entries sheet.now) × (e.0 < length set.now) × (length d.now ≡ cells) }
+    requires closed { Closed (points sheet.now) (reach (points sheet.now)) (cell d.now) }
+    ensures { Decides (BrokenAt sheet.now (marked set.now) (cell d.now) e.0) result }
 {
     if !set[e.0 as usize] {
         return false;
     }
-    let n = reading::count_terms(sheet) + 1;
-    let entry = reading::entry_at(sheet, e);
+    let n = sheet.count_terms() + 1;
+    let entry = sheet.entry_at(e);
     match entry.relation {
         Relation::Unequal => tied_at(d, n, entry.a.0 as usize, entry.b.0 as usize, entry.c),
         _ => false,

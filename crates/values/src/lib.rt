@@ -9,22 +9,20 @@ ghost use Rattle.closure.specs.Closed.{Closed};
 ghost use Rattle.closure.specs.Table.{reach};
 ghost use Rattle.levels.specs.Level.{sum_to, least_of, term_of, lowest_of, level_of};
 ghost use Rattle.cells.specs.Cells.{stride, cells, cell};
-ghost use Rattle.sheet.specs.Decode.{Sized, sheet_of};
-ghost use Rattle.sheet.specs.Sheet.{WellFormed};
 ghost use Rattle.settled.specs.Settled.{points};
 ghost use Rattle.values.specs.Written.{record_length, Written};
 
 use gap::Gap;
+use reading::Sheet;
 
 // Writes D and one n per term as the answer record, and answers its length. D is n * n, where n counts the terms and the zero level.
-pub fn write(sheet: &[u8], d: &[u32], room: &mut [u8]) -> usize
-    requires sized { Sized sheet.now × WellFormed (sheet_of sheet.now) }
-    requires d_len { (length d.now ≡ cells) × (record_length (sheet_of sheet.now) ≤ length room.old) }
-    requires closed { Closed (points (sheet_of sheet.now)) (reach (points (sheet_of sheet.now))) (cell d.now) }
-    ensures length { result ≡ record_length (sheet_of sheet.now) }
-    ensures written { Written (sheet_of sheet.now) (cell d.now) room.old room.new }
+pub fn write(sheet: &Sheet, d: &[u32], room: &mut [u8]) -> usize
+    requires d_len { (length d.now ≡ cells) × (record_length sheet.now ≤ length room.old) }
+    requires closed { Closed (points sheet.now) (reach (points sheet.now)) (cell d.now) }
+    ensures length { result ≡ record_length sheet.now }
+    ensures written { Written sheet.now (cell d.now) room.old room.new }
 {
-    let terms = reading::count_terms(sheet);
+    let terms = sheet.count_terms();
     let n = terms + 1;
     let mut v = [0u64; table::STRIDE];
     levels(d, n, &mut v);

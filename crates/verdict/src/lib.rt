@@ -7,22 +7,21 @@ ghost use Rattle.std.specs.Prelude.{◌≡◌, ◌≤◌, length};
 ghost use Rattle.closure.specs.Table.{Table};
 ghost use Rattle.cells.specs.Cells.{cells, cell, Kept};
 ghost use Rattle.order.specs.First.{marked};
-ghost use Rattle.sheet.specs.Decode.{Sized, sheet_of};
-ghost use Rattle.sheet.specs.Sheet.{WellFormed, count_entries};
+ghost use Rattle.sheet.specs.Sheet.{count_entries};
 ghost use Rattle.settled.specs.Settled.{points};
 ghost use Rattle.verdict.specs.Judged.{Judged};
 ghost use Rattle.verdict.specs.Entered.{EnteredPut};
 
+use reading::Sheet;
 pub use writing::Verdict;
 
 // Judges the entries that the set marks. The table is the caller's to lend, and is settled where they hold.
-pub fn on(sheet: &[u8], set: &[bool], d: &mut [u32]) -> Verdict
-    requires sized { Sized sheet.now × WellFormed (sheet_of sheet.now) }
-    requires sheet_in_bounds { (count_entries (sheet_of sheet.now) ≤ length set.now) × (length d.old ≡ cells) }
-    ensures judged { Judged (sheet_of sheet.now) (marked set.now) (cell d.new) result }
-    ensures kept { Kept (points (sheet_of sheet.now)) d.old d.new }
+pub fn on(sheet: &Sheet, set: &[bool], d: &mut [u32]) -> Verdict
+    requires sheet_in_bounds { (count_entries sheet.now ≤ length set.now) × (length d.old ≡ cells) }
+    ensures judged { Judged sheet.now (marked set.now) (cell d.new) result }
+    ensures kept { Kept (points sheet.now) d.old d.new }
 {
-    table::start(d, reading::count_terms(sheet) + 1);
+    table::start(d, sheet.count_terms() + 1);
     if !bounds::put_terms(sheet, d) {
         return Verdict::Clashes;
     }
@@ -34,12 +33,12 @@ pub fn on(sheet: &[u8], set: &[bool], d: &mut [u32]) -> Verdict
 }
 
 // With all terms in: puts the entries in, passes equalities on, then looks at the ≠ entries.
-fn finish(sheet: &[u8], set: &[bool], d: &mut [u32]) -> bool
-    requires sized { Sized sheet.now × WellFormed (sheet_of sheet.now) }
-    requires sheet_in_bounds { count_entries (sheet_of sheet.now) ≤ length set.now }
-    requires d_len { (length d.old ≡ cells) × Table (points (sheet_of sheet.now)) (cell d.old) }
-    ensures { EnteredPut (sheet_of sheet.now) (marked set.now) d.old d.new result }
+fn finish(sheet: &Sheet, set: &[bool], d: &mut [u32]) -> bool
+    requires sheet_in_bounds { count_entries sheet.now ≤ length set.now }
+    requires d_len { (length d.old ≡ cells) × Table (points sheet.now) (cell d.old) }
+    ensures { EnteredPut sheet.now (marked set.now) d.old d.new result }
 {
+    sheet.formed();
     if !bounds::put_entries(sheet, set, d) {
         return false;
     }

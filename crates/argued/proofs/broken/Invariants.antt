@@ -3,9 +3,8 @@
 use Rattle.std.proofs.Common.{ℕ, ◌<◌}
 use Rattle.cells.specs.Cells.{cell}
 use Rattle.order.specs.First.{marked}
-use Rattle.sheet.specs.Decode.{sheet_of}
 use Rattle.ties.specs.Ties.{BrokenAt}
 use Rattle.argued.proofs.broken.Given as goal
 
 abbrev pub invariant-loop-e : goal.invariant-loop-e
-invariant-loop-e l = (k : ℕ) → k < l.e → BrokenAt (sheet_of l.sheet) (marked l.set) (cell l.d) k → ⊥
+invariant-loop-e l = (k : ℕ) → k < l.e → BrokenAt l.sheet (marked l.set) (cell l.d) k → ⊥

@@ -5,7 +5,6 @@ use Rattle.std.proofs.Common.{◌≡◌, ◌+◌, ◌<◌, ◌≤◌, length, sy
 use borrow.Author.Tests.{eqb-false}
 use Rattle.cells.specs.Cells.{stride}
 use Rattle.cells.proofs.Keeps.{kept_on}
-use Rattle.sheet.specs.Decode.{sheet_of}
 use Rattle.settled.specs.Settled.{points}
 use Rattle.sketch.specs.Sketch.{walks_length}
 use Rattle.drafted.proofs.Named.{few-ties, ledger-name}
@@ -27,7 +26,7 @@ mark-requires c =
     let Y = c.requires.ready in
     let E = c.entry_at-entry in
     let x< = c.requires.e_bound.0 in
-    let e = c.count_terms-n.ensures.0 in record {
+    let e = c.count_terms-n.ensures.count.0 in record {
       labels_len = (
         Y.all-labels,
         points-few Y e,
@@ -73,7 +72,7 @@ both-requires c =
     let Y = c.requires.ready in
     let E = c.entry_at-entry in
     let (x<, B) = c.requires.e_bound in
-    let e = c.count_terms-n.ensures.0 in record {
+    let e = c.count_terms-n.ensures.count.0 in record {
       sound = both-asks Y E.result E.ensures x< e B;
       n_le_stride = (
         points-few Y e,
@@ -106,7 +105,7 @@ write_tie-requires c =
     let Y = c.requires.ready in
     let E = c.entry_at-entry in
     let (x<, B) = c.requires.e_bound in
-    let e = c.count_terms-n.ensures.0 in
+    let e = c.count_terms-n.ensures.count.0 in
     let F = c.both.ensures.found in
     let G = c.gather-2.ensures.gathered in
     let same = c.gather-2.auto.walks in
@@ -124,8 +123,8 @@ returns c =
     let Y = c.requires.ready in
     let E = c.entry_at-entry in
     let (x<, B) = c.requires.e_bound in
-    let e = c.count_terms-n.ensures.0 in
-    let n : c.count_terms-n.result + 1 ≡ points (sheet_of c.args.sheet.now) = omega arith in
+    let e = c.count_terms-n.ensures.count.0 in
+    let n : c.count_terms-n.result + 1 ≡ points c.args.sheet.now = omega arith in
     let apart = eqb-false _ _ (sym c.together.ensures ∙ c.if-together.false) in
     let more : c.args.count < 128 = few-more Y E.result E.ensures x< apart in
     let next< : c.args.count + 1 < length c.both.new.need = omega (arith, more, c.both.auto.need) in record {

@@ -3,7 +3,6 @@
 use Rattle.std.proofs.Common.{◌≡◌, ◌+◌, ◌<◌, ◌≤◌, length, arith, length-set}
 use Rattle.cells.specs.Cells.{stride}
 use Rattle.cells.proofs.Keeps.{kept_on}
-use Rattle.sheet.specs.Decode.{sheet_of}
 use Rattle.settled.specs.Settled.{points}
 use Rattle.sketch.specs.Sketch.{walks_length}
 use Rattle.drafted.proofs.Named.{name_below}
@@ -15,7 +14,7 @@ use Rattle.argued.proofs.by_round.Goals as goal
 pub round-requires : goal.round-requires
 round-requires c =
     let (Y, l) = c.requires in
-    let e = c.count_terms-n.ensures.0 in record {
+    let e = c.count_terms-n.ensures.count.0 in record {
       sound = round-asks Y e l;
       n_le_stride = (points-few Y e, Y.all-cells, omega arith, omega (arith, Y.all-names));
       by_index = λ b h g. names-fit Y stride b (omega arith) (omega arith) g;
@@ -31,7 +30,7 @@ gather-requires-clause-ties_len c =
 pub write_round-requires : goal.write_round-requires
 write_round-requires c =
     let (Y, l) = c.requires in
-    let e = c.count_terms-n.ensures.0 in
+    let e = c.count_terms-n.ensures.count.0 in
     let F = c.round.ensures.found in
     let G = c.gather.ensures.gathered in
     let same = c.gather.auto.walks in
@@ -45,9 +44,9 @@ write_round-requires c =
 pub returns : goal.returns
 returns c =
     let (Y, l) = c.requires in
-    let e = c.count_terms-n.ensures.0 in
+    let e = c.count_terms-n.ensures.count.0 in
     let count< : c.args.count < length c.round.new.need = omega (arith, few Y, c.round.auto.need) in
-    let n : c.count_terms-n.result + 1 ≡ points (sheet_of c.args.sheet.now) = omega arith in record {
+    let n : c.count_terms-n.result + 1 ≡ points c.args.sheet.now = omega arith in record {
       closed = round-closes Y e c.round.ensures.found c.gather.ensures.gathered l count< c.gather.auto.walks (none-marked stride) c.write_round.ensures;
       kept = kept_on (rw n at c.round.ensures.kept) c.gather.ensures.kept;
     }

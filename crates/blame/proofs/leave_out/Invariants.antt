@@ -11,5 +11,5 @@ use Rattle.blame.proofs.leave_out.Given as goal
 
 abbrev pub invariant-loop-r : goal.invariant-loop-r
 invariant-loop-r l =
-    Kept (points (sheet_of l.sheet)) l.initial.d l.d
-    × GoneDown (Clashes (sheet_of l.sheet)) (count_entries (sheet_of l.sheet)) number l.r (marked l.marks)
+    Kept (points l.sheet) l.initial.d l.d
+    × GoneDown (Clashes l.sheet) (count_entries l.sheet) number l.r (marked l.marks)

@@ -11,5 +11,5 @@ use Rattle.bounds.proofs.put_entries.Given as goal
 
 abbrev pub invariant-loop-e : goal.invariant-loop-e
 invariant-loop-e l =
-    Kept (points (sheet_of l.sheet)) l.initial.d l.d
-    × Went (points (sheet_of l.sheet)) (EntriesTrue (sheet_of l.sheet) (λ k. get_or l.set k false)) (EntriesHeld (sheet_of l.sheet) (λ k. get_or l.set k false) l.e) l.initial.d l.d
+    Kept (points l.sheet) l.initial.d l.d
+    × Went (points l.sheet) (EntriesTrue l.sheet (λ k. get_or l.set k false)) (EntriesHeld l.sheet (λ k. get_or l.set k false) l.e) l.initial.d l.d

@@ -9,7 +9,7 @@ pub loop-i-preserved : goal.loop-i-preserved
 loop-i-preserved c =
     let loop = c.loop-i in
     let S =
-    terms-more _ _ c.requires.sized.1 (omega arith) c.count_terms-t.ensures.0 c.term_at.ensures
+    terms-more _ _ c.count_terms-t.ensures.formed (omega arith) c.count_terms-t.ensures.count.0 c.term_at.ensures
     loop.invariant.0 loop.invariant.1 c.put_term.ensures
     in
     (S.kept, S.went (not-false _ c.if-not-put_term.false-raw))

@@ -9,4 +9,4 @@ use Rattle.bounds.proofs.put_terms.Given as goal
 
 abbrev pub invariant-loop-i : goal.invariant-loop-i
 invariant-loop-i l =
-    Kept (points (sheet_of l.sheet)) l.initial.d l.d × Went (points (sheet_of l.sheet)) (TermsTrue (sheet_of l.sheet)) (TermsHeld (sheet_of l.sheet) l.i) l.initial.d l.d
+    Kept (points l.sheet) l.initial.d l.d × Went (points l.sheet) (TermsTrue l.sheet) (TermsHeld l.sheet l.i) l.initial.d l.d

@@ -6,4 +6,4 @@ use Rattle.pairs.proofs.Passes.{Sofar}
 use Rattle.groups.proofs.pass_group.Given as goal
 
 abbrev pub invariant-loop-q : goal.invariant-loop-q
-invariant-loop-q l = Sofar (sheet_of l.sheet) (GroupTied (sheet_of l.sheet) l.i.0 l.keys l.least l.q) l.initial.d l.d l.fresh
+invariant-loop-q l = Sofar l.sheet (GroupTied l.sheet l.i.0 l.keys l.least l.q) l.initial.d l.d l.fresh

@@ -13,8 +13,8 @@ returns-then-key-eq0-clause-passing c = still (none_passed c.key_at-key.ensures.
 pub pass_group-requires-clause-place_in_bounds : goal.pass_group-requires-clause-place_in_bounds
 pass_group-requires-clause-place_in_bounds c =
     let I = c.insert-place.ensures in
-    (omega (arith, I.within, c.requires.sized.1.terms), ascending-fewer (omega (arith, I.within)) (ascending-more I c.requires.keys_len.1), λ q l. omega (arith, I.lower q l))
+    (omega (arith, I.within, c.formed.ensures.terms), ascending-fewer (omega (arith, I.within)) (ascending-more I c.requires.keys_len.1), λ q l. omega (arith, I.lower q l))
 
 pub returns-clause-passing : goal.returns-clause-passing
 returns-clause-passing c =
-    passing-map _ (group-passed c.key_at-key.ensures.0 c.insert-place.ensures c.requires.sized.1 c.requires.d_len.1.closed c.requires.sized.2) c.pass_group.ensures
+    passing-map _ (group-passed c.key_at-key.ensures.0 c.insert-place.ensures c.formed.ensures c.requires.d_len.1.closed c.requires.i_bound) c.pass_group.ensures

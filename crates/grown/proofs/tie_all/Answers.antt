@@ -15,37 +15,37 @@ loop-i-init c =
 pub both-requires : goal.both-requires
 both-requires c =
     let G = c.loop-i.invariant.0 in
-    let l = room c.requires.sized.1.terms c.requires.list_len.1 G (pair c.in-Some.ensures) in
+    let l = room c.count_terms-n.ensures.formed.terms c.requires.list_len.1 G (pair c.in-Some.ensures) in
     omega (arith, G.all-room)
 
 pub put-put-requires-clause-sound : goal.put-put-requires-clause-sound
 put-put-requires-clause-sound c =
     let new = c.both.auto in
     let L =
-    listing c.requires.sized.1.terms c.requires.list_len.1 c.loop-i.invariant.0 (pair c.in-Some.ensures) c.both.ensures new.list
+    listing c.count_terms-n.ensures.formed.terms c.requires.list_len.1 c.loop-i.invariant.0 (pair c.in-Some.ensures) c.both.ensures new.list
     in
-    rw c.count_terms-n.ensures.0 (sound L)
+    rw c.count_terms-n.ensures.count.0 (sound L)
 
 pub put-put-requires-clause-exact : goal.put-put-requires-clause-exact
 put-put-requires-clause-exact c =
     let new = c.both.auto in
     let L =
-    listing c.requires.sized.1.terms c.requires.list_len.1 c.loop-i.invariant.0 (pair c.in-Some.ensures) c.both.ensures new.list
+    listing c.count_terms-n.ensures.formed.terms c.requires.list_len.1 c.loop-i.invariant.0 (pair c.in-Some.ensures) c.both.ensures new.list
     in
-    rw c.count_terms-n.ensures.0 (rests L)
+    rw c.count_terms-n.ensures.count.0 (rests L)
 
 pub returns-then-put-listed-clause-grew : goal.returns-then-put-listed-clause-grew
 returns-then-put-listed-clause-grew c =
     let new = c.both.auto in
     let L =
-    listing c.requires.sized.1.terms c.requires.list_len.1 c.loop-i.invariant.0 (pair c.in-Some.ensures) c.both.ensures new.list
+    listing c.count_terms-n.ensures.formed.terms c.requires.list_len.1 c.loop-i.invariant.0 (pair c.in-Some.ensures) c.both.ensures new.list
     in
-    shut L (rw c.count_terms-n.ensures.0 at c.put-put.ensures) c.if-put-listed.true
+    shut L (rw c.count_terms-n.ensures.count.0 at c.put-put.ensures) c.if-put-listed.true
 
 pub loop-i-preserved : goal.loop-i-preserved
 loop-i-preserved c =
     let inv = c.loop-i.invariant in
     let new = c.both.auto in
-    let L = listing c.requires.sized.1.terms c.requires.list_len.1 inv.0 (pair c.in-Some.ensures) c.both.ensures new.list in
-    let R = rw c.count_terms-n.ensures.0 at c.put-put.ensures in
+    let L = listing c.count_terms-n.ensures.formed.terms c.requires.list_len.1 inv.0 (pair c.in-Some.ensures) c.both.ensures new.list in
+    let R = rw c.count_terms-n.ensures.count.0 at c.put-put.ensures in
     (grown L R c.if-put-listed.false, front-still L inv.1, kept_on inv.2 R.kept)

@@ -2,7 +2,6 @@
 -- Assumes nothing.
 use Prim.Native.Nat.{◌-◌}
 use Rattle.cells.specs.Cells.{Kept}
-use Rattle.sheet.specs.Decode.{sheet_of}
 use Rattle.settled.specs.Settled.{points}
 use Rattle.jotted.specs.Jotted.{most}
 use Rattle.grown.specs.Grown.{Front}
@@ -11,8 +10,8 @@ use Rattle.grown.proofs.tie_all.Given as goal
 
 abbrev pub invariant-loop-i : goal.invariant-loop-i
 invariant-loop-i l =
-    Growing (sheet_of l.sheet) l.m l.list l.d l.listed × Front l.m l.initial.list l.list
-    × Kept (points (sheet_of l.sheet)) l.initial.d l.d
+    Growing l.sheet l.m l.list l.d l.listed × Front l.m l.initial.list l.list
+    × Kept (points l.sheet) l.initial.d l.d
 
 abbrev pub decreases-loop-i : goal.decreases-loop-i
 decreases-loop-i l = most - l.listed

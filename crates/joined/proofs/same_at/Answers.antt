@@ -6,8 +6,8 @@ use Rattle.joined.proofs.same_at.Goals as goal
 
 pub same_input-requires : goal.same_input-requires
 same_input-requires c =
-    let wf = c.requires.sized.1 in record {
-      d_len = (c.requires.d_len.0, omega (arith, wf.terms), rw c.count_terms-n.ensures.0 c.requires.d_len.1);
+    let wf = c.count_terms-n.ensures.formed in record {
+      d_len = (c.requires.d_len.0, omega (arith, wf.terms), rw c.count_terms-n.ensures.count.0 c.requires.d_len.1);
       arguments_below = (
         rw c.record_of.ensures (arguments-wider (omega arith) (wf.arguments c.args.i.0 (omega arith))),
         rw c.record_of-2.ensures (arguments-wider (omega arith) (wf.arguments c.args.j.0 (omega arith))),

@@ -7,23 +7,23 @@ use Rattle.laid.proofs.arguments.Goals.{in_default-via-in-Apply+in_default, in_d
 
 pub tie_up-requires-clause-ties_len : goal.tie_up-requires-clause-ties_len
 tie_up-requires-clause-ties_len c =
-    let wf = c.requires.sized.1 in
-    let own = one-below c.term_at-own.ensures (points-below _ _ c.requires.sized.2 wf c.requires.i_bound.0) c.in-Apply-Apply.is-0 in
-    let other = one-below c.term_at-other.ensures (points-below _ _ c.requires.sized.2 wf c.requires.i_bound.1) c.in-Apply-Apply.is-1 in
+    let wf = c.formed.ensures in
+    let own = one-below c.term_at-own.ensures (points-below _ _ c.requires.all_points wf c.requires.i_bound.0) c.in-Apply-Apply.is-0 in
+    let other = one-below c.term_at-other.ensures (points-below _ _ c.requires.all_points wf c.requires.i_bound.1) c.in-Apply-Apply.is-1 in
     omega (arith, wf.terms)
 
 pub tie_up-u-requires-clause-ties_len : goal.tie_up-u-requires-clause-ties_len
 tie_up-u-requires-clause-ties_len c =
-    let wf = c.requires.sized.1 in
-    let own = two-below c.term_at-own.ensures (points-below _ _ c.requires.sized.2 wf c.requires.i_bound.0) c.in-Apply2-Apply2.is-0 in
-    let other = two-below c.term_at-other.ensures (points-below _ _ c.requires.sized.2 wf c.requires.i_bound.1) c.in-Apply2-Apply2.is-1 in
+    let wf = c.formed.ensures in
+    let own = two-below c.term_at-own.ensures (points-below _ _ c.requires.all_points wf c.requires.i_bound.0) c.in-Apply2-Apply2.is-0 in
+    let other = two-below c.term_at-other.ensures (points-below _ _ c.requires.all_points wf c.requires.i_bound.1) c.in-Apply2-Apply2.is-1 in
     omega (arith, wf.terms)
 
 pub tie_up-requires-in-Apply2-Apply2-clause-ties_len : goal.tie_up-requires-in-Apply2-Apply2-clause-ties_len
 tie_up-requires-in-Apply2-Apply2-clause-ties_len c =
-    let wf = c.requires.sized.1 in
-    let own = two-below c.term_at-own.ensures (points-below _ _ c.requires.sized.2 wf c.requires.i_bound.0) c.in-Apply2-Apply2.is-0 in
-    let other = two-below c.term_at-other.ensures (points-below _ _ c.requires.sized.2 wf c.requires.i_bound.1) c.in-Apply2-Apply2.is-1 in
+    let wf = c.formed.ensures in
+    let own = two-below c.term_at-own.ensures (points-below _ _ c.requires.all_points wf c.requires.i_bound.0) c.in-Apply2-Apply2.is-0 in
+    let other = two-below c.term_at-other.ensures (points-below _ _ c.requires.all_points wf c.requires.i_bound.1) c.in-Apply2-Apply2.is-1 in
     omega (arith, wf.terms)
 
 pub unreachable-requires : goal.unreachable-requires
@@ -43,8 +43,8 @@ returns-in-Apply-Apply c =
 
 pub returns-in-Apply2-Apply2 : goal.returns-in-Apply2-Apply2
 returns-in-Apply2-Apply2 c =
-    let wf = c.requires.sized.1 in
-    let own = two-below c.term_at-own.ensures (points-below _ _ c.requires.sized.2 wf c.requires.i_bound.0) c.in-Apply2-Apply2.is-0 in
-    let other = two-below c.term_at-other.ensures (points-below _ _ c.requires.sized.2 wf c.requires.i_bound.1) c.in-Apply2-Apply2.is-1 in
+    let wf = c.formed.ensures in
+    let own = two-below c.term_at-own.ensures (points-below _ _ c.requires.all_points wf c.requires.i_bound.0) c.in-Apply2-Apply2.is-0 in
+    let other = two-below c.term_at-other.ensures (points-below _ _ c.requires.all_points wf c.requires.i_bound.1) c.in-Apply2-Apply2.is-1 in
     two-tied c.term_at-own.ensures c.term_at-other.ensures c.requires.i_bound.2 c.in-Apply2-Apply2.is-0 c.in-Apply2-Apply2.is-1 (own.0, other.0)
     c.tie_up-u.ensures c.tie_up-in-Apply2-Apply2.ensures

@@ -6,7 +6,7 @@ use Rattle.laid.proofs.Turn.{room, turned}
 use Rattle.laid.proofs.lay.Goals as goal
 
 pub loop-e-init : goal.loop-e-init
-loop-e-init c = (omega (arith, c.requires.function_ties.listed-is), none_yet (ap (λ (k : ℕ). k + 1) c.count_terms-n.ensures.0) c.start.ensures)
+loop-e-init c = (omega (arith, c.requires.function_ties.listed-is), none_yet (ap (λ (k : ℕ). k + 1) c.count_terms-n.ensures.count.0) c.start.ensures)
 
 pub arguments-t-requires-clause-i_bound : goal.arguments-t-requires-clause-i_bound
 arguments-t-requires-clause-i_bound c =
@@ -17,7 +17,7 @@ pub overflow_cast-names : goal.overflow_cast-names
 overflow_cast-names c =
     omega (
       arith,
-      room c.requires.sized.1 (ap (λ (k : ℕ). k + 1) c.count_terms-n.ensures.0) c.loop-e.invariant.1 c.requires.function_ties c.loop-e-test.true c.from-i.ensures
+      room c.count_terms-n.ensures.formed (ap (λ (k : ℕ). k + 1) c.count_terms-n.ensures.count.0) c.loop-e.invariant.1 c.requires.function_ties c.loop-e-test.true c.from-i.ensures
           c.from-j.ensures c.arguments-t.ensures,
     )
 
@@ -25,7 +25,7 @@ pub overflow_add-names : goal.overflow_add-names
 overflow_add-names c =
     omega (
       arith,
-      room c.requires.sized.1 (ap (λ (k : ℕ). k + 1) c.count_terms-n.ensures.0) c.loop-e.invariant.1 c.requires.function_ties c.loop-e-test.true c.from-i.ensures
+      room c.count_terms-n.ensures.formed (ap (λ (k : ℕ). k + 1) c.count_terms-n.ensures.count.0) c.loop-e.invariant.1 c.requires.function_ties c.loop-e-test.true c.from-i.ensures
           c.from-j.ensures c.arguments-t.ensures,
     )
 
@@ -33,7 +33,7 @@ pub overflow_cast-names-in-loop-e : goal.overflow_cast-names-in-loop-e
 overflow_cast-names-in-loop-e c =
     omega (
       arith,
-      room c.requires.sized.1 (ap (λ (k : ℕ). k + 1) c.count_terms-n.ensures.0) c.loop-e.invariant.1 c.requires.function_ties c.loop-e-test.true c.from-i.ensures
+      room c.count_terms-n.ensures.formed (ap (λ (k : ℕ). k + 1) c.count_terms-n.ensures.count.0) c.loop-e.invariant.1 c.requires.function_ties c.loop-e-test.true c.from-i.ensures
           c.from-j.ensures c.arguments-t.ensures,
     )
 
@@ -41,7 +41,7 @@ pub overflow_add-names-in-loop-e-2 : goal.overflow_add-names-in-loop-e-2
 overflow_add-names-in-loop-e-2 c =
     omega (
       arith,
-      room c.requires.sized.1 (ap (λ (k : ℕ). k + 1) c.count_terms-n.ensures.0) c.loop-e.invariant.1 c.requires.function_ties c.loop-e-test.true c.from-i.ensures
+      room c.count_terms-n.ensures.formed (ap (λ (k : ℕ). k + 1) c.count_terms-n.ensures.count.0) c.loop-e.invariant.1 c.requires.function_ties c.loop-e-test.true c.from-i.ensures
           c.from-j.ensures c.arguments-t.ensures,
     )
 
@@ -49,8 +49,8 @@ pub push-t-requires-clause-ties_len : goal.push-t-requires-clause-ties_len
 push-t-requires-clause-ties_len c =
     omega (
       arith,
-      c.requires.sized.1.terms,
-      room c.requires.sized.1 (ap (λ (k : ℕ). k + 1) c.count_terms-n.ensures.0) c.loop-e.invariant.1 c.requires.function_ties c.loop-e-test.true c.from-i.ensures
+      c.count_terms-n.ensures.formed.terms,
+      room c.count_terms-n.ensures.formed (ap (λ (k : ℕ). k + 1) c.count_terms-n.ensures.count.0) c.loop-e.invariant.1 c.requires.function_ties c.loop-e-test.true c.from-i.ensures
           c.from-j.ensures c.arguments-t.ensures,
     )
 
@@ -63,7 +63,7 @@ pub loop-e-preserved : goal.loop-e-preserved
 loop-e-preserved c =
     let two : c.loop-e.e + 2 ≤ c.args.listed = both-listed c.loop-e.invariant.1 c.requires.function_ties c.loop-e-test.true in (
       two,
-      turned c.requires.sized.1 (ap (λ (k : ℕ). k + 1) c.count_terms-n.ensures.0) c.loop-e.invariant.1 c.requires.function_ties c.loop-e-test.true c.from-i.ensures
+      turned c.count_terms-n.ensures.formed (ap (λ (k : ℕ). k + 1) c.count_terms-n.ensures.count.0) c.loop-e.invariant.1 c.requires.function_ties c.loop-e-test.true c.from-i.ensures
           c.from-j.ensures c.arguments-t.ensures (omega arith) (named c.loop-e.names (omega arith)) c.push-t.ensures,
     )
 
@@ -73,5 +73,5 @@ returns-2 c =
     let two : c.loop-e.e + 2 ≤ c.args.listed = both-listed c.loop-e.invariant.1 c.requires.function_ties c.loop-e-test.true in
     let end : c.loop-e.e + 2 ≡ c.args.listed = omega arith in
     rw end at
-    (turned c.requires.sized.1 (ap (λ (k : ℕ). k + 1) c.count_terms-n.ensures.0) c.loop-e.invariant.1 c.requires.function_ties c.loop-e-test.true c.from-i.ensures
+    (turned c.count_terms-n.ensures.formed (ap (λ (k : ℕ). k + 1) c.count_terms-n.ensures.count.0) c.loop-e.invariant.1 c.requires.function_ties c.loop-e-test.true c.from-i.ensures
     c.from-j.ensures c.arguments-t.ensures (omega arith) (named c.loop-e.names (omega arith)) c.push-t.ensures).laid

@@ -10,7 +10,7 @@ loop-e-preserved c =
     let L = c.loop-e.invariant in
     elim c.if-set-e.branch [
       | then-set-e w ↦ rw (w.list-is, w.names-is, w.m-is)
-          (entry_more L (omega arith) (omega arith) c.requires.sized.1 (omega arith) w.if-set-e.true w.entry_at.ensures
+          (entry_more L (omega arith) (omega arith) c.count_entries-l.ensures.formed (omega arith) w.if-set-e.true w.entry_at.ensures
           w.list_entry-m.ensures)
       | else-set-e w ↦ rw (w.list-is, w.names-is, w.m-is) (entry-skipped w.if-set-e.false L)
     ]

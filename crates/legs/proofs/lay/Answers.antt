@@ -6,4 +6,4 @@ use Rattle.legs.proofs.lay.Goals as goal
 
 pub returns : goal.returns
 returns c =
-    all_laid (omega (arith, c.requires.1.entries)) c.lay_entries.ensures c.lay_terms.ensures
+    all_laid (omega (arith, c.formed.ensures.entries)) c.lay_entries.ensures c.lay_terms.ensures

@@ -2,11 +2,10 @@
 -- Assumes nothing.
 use mathlib.Core.Path.{◌≡◌}
 use Rattle.order.specs.First.{marked}
-use Rattle.sheet.specs.Decode.{sheet_of}
 use Rattle.sheet.specs.Sheet.{count_entries}
 use Rattle.legs.specs.Legs.{LaidEntries}
 use Rattle.legs.proofs.lay_entries.Given as goal
 
 abbrev pub invariant-loop-e : goal.invariant-loop-e
 invariant-loop-e l =
-    (l.count ≡ count_entries (sheet_of l.sheet)) × LaidEntries (sheet_of l.sheet) (marked l.listed) l.e l.initial.legs l.legs
+    (l.count ≡ count_entries l.sheet) × LaidEntries l.sheet (marked l.listed) l.e l.initial.legs l.legs

@@ -2,11 +2,10 @@
 -- Assumes nothing.
 use Prim.Native.Nat.{◌<◌}
 use mathlib.Core.Path.{◌≡◌}
-use Rattle.sheet.specs.Decode.{sheet_of}
 use Rattle.sheet.specs.Sheet.{count_terms}
 use Rattle.legs.specs.Legs.{LaidTerms}
 use Rattle.legs.proofs.lay_terms.Given as goal
 
 abbrev pub invariant-loop-i : goal.invariant-loop-i
 invariant-loop-i l =
-    (l.count < 256) × (l.count ≡ count_terms (sheet_of l.sheet)) × LaidTerms (sheet_of l.sheet) l.i l.initial.legs l.legs
+    (l.count < 256) × (l.count ≡ count_terms l.sheet) × LaidTerms l.sheet l.i l.initial.legs l.legs

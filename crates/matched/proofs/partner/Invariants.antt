@@ -2,9 +2,8 @@
 -- Assumes nothing.
 use Prim.Native.Nat.{ℕ, ◌<◌}
 use Rattle.cells.specs.Cells.{cell}
-use Rattle.sheet.specs.Decode.{sheet_of}
 use Rattle.matched.specs.Matched.{Untied}
 use Rattle.matched.proofs.partner.Given as goal
 
 abbrev pub invariant-loop-j : goal.invariant-loop-j
-invariant-loop-j l = (k : ℕ) → k < l.j → Untied (sheet_of l.sheet) (cell l.d) l.i k → ⊥
+invariant-loop-j l = (k : ℕ) → k < l.j → Untied l.sheet (cell l.d) l.i k → ⊥

@@ -2,7 +2,6 @@
 -- Assumes nothing.
 use mathlib.Core.Path.{sym, ◌∙◌}
 use mathlib.Core.Bool.{true≢false}
-use Rattle.sheet.specs.Decode.{sheet_of}
 use Rattle.meets.proofs.Counted.{entry-told, entries-more}
 use Rattle.meets.proofs.entries.Goals as goal
 use Rattle.meets.proofs.entries.Goals.{else-set-e-via-then-set-e+else-not-entry_true, else-set-e-via-else-set-e}
@@ -13,7 +12,7 @@ loop-e-preserved c =
       c.loop-e.invariant.0,
       entries-more c.loop-e.invariant.1
           (elim c.else-set-e.branch [
-            | else-set-e-via-then-set-e+else-not-entry_true w ↦ (λ m. (entry-told (sheet_of args.sheet.now) args.d c.loop-e.e args.v.now
+            | else-set-e-via-then-set-e+else-not-entry_true w ↦ (λ m. (entry-told args.sheet.now args.d c.loop-e.e args.v.now
                 c.requires.t_value.0 w.entry_at.ensures w.entry_true.ensures).yes w.if-not-entry_true.false)
             | else-set-e-via-else-set-e w ↦ (λ m. absurd (true≢false (sym m ∙ w.if-set-e.false)))
           ]),

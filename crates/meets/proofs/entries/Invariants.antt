@@ -2,11 +2,10 @@
 -- Assumes nothing.
 use mathlib.Core.Path.{◌≡◌}
 use Rattle.order.specs.First.{marked}
-use Rattle.sheet.specs.Decode.{sheet_of}
 use Rattle.sheet.specs.Sheet.{count_entries}
 use Rattle.meets.specs.Parts.{EntriesMet}
 use Rattle.meets.proofs.entries.Given as goal
 
 abbrev pub invariant-loop-e : goal.invariant-loop-e
 invariant-loop-e l =
-    (l.l ≡ count_entries (sheet_of l.sheet)) × EntriesMet (sheet_of l.sheet) (marked l.set) l.d l.v l.e
+    (l.l ≡ count_entries l.sheet) × EntriesMet l.sheet (marked l.set) l.d l.v l.e

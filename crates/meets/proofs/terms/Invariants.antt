@@ -2,11 +2,10 @@
 -- Assumes nothing.
 use Prim.Native.Nat.{◌≤◌}
 use Rattle.sheet.specs.Limits.{max_terms}
-use Rattle.sheet.specs.Decode.{sheet_of}
 use Rattle.meets.specs.Parts.{TermsMet}
 use Rattle.meets.proofs.Keyed.{Kept}
 use Rattle.meets.proofs.terms.Given as goal
 
 abbrev pub invariant-loop-i : goal.invariant-loop-i
 invariant-loop-i l =
-    (l.t ≤ max_terms) × Kept (sheet_of l.sheet) l.v l.keys l.shelves l.i × TermsMet (sheet_of l.sheet) l.d l.v l.i
+    (l.t ≤ max_terms) × Kept l.sheet l.v l.keys l.shelves l.i × TermsMet l.sheet l.d l.v l.i

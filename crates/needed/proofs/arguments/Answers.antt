@@ -9,10 +9,11 @@ use Rattle.needed.proofs.arguments.Goals.{in_default-via-in-Apply+in_default, in
 
 pub mark-requires-clause-labels_len : goal.mark-requires-clause-labels_len
 mark-requires-clause-labels_len c =
-    let pre = c.requires.sized in
-    let own = one-below c.term_at-own.ensures (points-below _ _ pre.2 pre.1 pre.3) c.in-Apply-Apply.is-0 in
-    let other = one-below c.term_at-other.ensures (points-below _ _ pre.2 pre.1 pre.4) c.in-Apply-Apply.is-1 in
-    omega (arith, pre.1.terms)
+    let pre = c.requires.all_points in
+    let wf = c.formed.ensures in
+    let own = one-below c.term_at-own.ensures (points-below _ _ pre.0 wf pre.1) c.in-Apply-Apply.is-0 in
+    let other = one-below c.term_at-other.ensures (points-below _ _ pre.0 wf pre.2) c.in-Apply-Apply.is-1 in
+    omega (arith, wf.terms)
 
 pub mark-requires-clause-labelled : goal.mark-requires-clause-labelled
 mark-requires-clause-labelled c =
@@ -21,10 +22,11 @@ mark-requires-clause-labelled c =
 
 pub mark-requires-in-Apply2-Apply2-clause-labels_len : goal.mark-requires-in-Apply2-Apply2-clause-labels_len
 mark-requires-in-Apply2-Apply2-clause-labels_len c =
-    let pre = c.requires.sized in
-    let own = two-below c.term_at-own.ensures (points-below _ _ pre.2 pre.1 pre.3) c.in-Apply2-Apply2.is-0 in
-    let other = two-below c.term_at-other.ensures (points-below _ _ pre.2 pre.1 pre.4) c.in-Apply2-Apply2.is-1 in
-    omega (arith, pre.1.terms)
+    let pre = c.requires.all_points in
+    let wf = c.formed.ensures in
+    let own = two-below c.term_at-own.ensures (points-below _ _ pre.0 wf pre.1) c.in-Apply2-Apply2.is-0 in
+    let other = two-below c.term_at-other.ensures (points-below _ _ pre.0 wf pre.2) c.in-Apply2-Apply2.is-1 in
+    omega (arith, wf.terms)
 
 pub mark-requires-in-Apply2-Apply2-clause-labelled : goal.mark-requires-in-Apply2-Apply2-clause-labelled
 mark-requires-in-Apply2-Apply2-clause-labelled c =
@@ -33,10 +35,11 @@ mark-requires-in-Apply2-Apply2-clause-labelled c =
 
 pub mark-requires-in-Apply2-Apply2-2-clause-labels_len : goal.mark-requires-in-Apply2-Apply2-2-clause-labels_len
 mark-requires-in-Apply2-Apply2-2-clause-labels_len c =
-    let pre = c.requires.sized in
-    let own = two-below c.term_at-own.ensures (points-below _ _ pre.2 pre.1 pre.3) c.in-Apply2-Apply2.is-0 in
-    let other = two-below c.term_at-other.ensures (points-below _ _ pre.2 pre.1 pre.4) c.in-Apply2-Apply2.is-1 in
-    omega (arith, pre.1.terms)
+    let pre = c.requires.all_points in
+    let wf = c.formed.ensures in
+    let own = two-below c.term_at-own.ensures (points-below _ _ pre.0 wf pre.1) c.in-Apply2-Apply2.is-0 in
+    let other = two-below c.term_at-other.ensures (points-below _ _ pre.0 wf pre.2) c.in-Apply2-Apply2.is-1 in
+    omega (arith, wf.terms)
 
 pub mark-requires-in-Apply2-Apply2-2-clause-labelled : goal.mark-requires-in-Apply2-Apply2-2-clause-labelled
 mark-requires-in-Apply2-Apply2-2-clause-labelled c =

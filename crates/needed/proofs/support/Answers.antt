@@ -7,15 +7,15 @@ use Rattle.needed.proofs.support.Goals as goal
 
 pub both-requires-clause-sound : goal.both-requires-clause-sound
 both-requires-clause-sound c =
-    let tie = c.requires.sized.3 in
+    let tie = c.requires.all_points.1 in
     let next : c.how.result ≡ suc c.in-Some.m = omega (arith, c.in-Some.ensures) in
-    asked-walks (c.left-a.ensures ∙ ap left_of tie) (c.right-b.ensures ∙ ap right_of tie) c.requires.sized.2 c.requires.grounds
+    asked-walks (c.left-a.ensures ∙ ap left_of tie) (c.right-b.ensures ∙ ap right_of tie) c.requires.all_points.0 c.requires.grounds
     (sym (c.how.ensures ∙ ap how_of tie) ∙ next)
 
 pub both-requires-clause-n_le_stride : goal.both-requires-clause-n_le_stride
 both-requires-clause-n_le_stride c =
     let pre = c.requires in
-    let tie = pre.sized.3 in
+    let tie = pre.all_points.1 in
     let next : c.how.result ≡ suc c.in-Some.m = omega (arith, c.in-Some.ensures) in
     let W = pre.grounds.walks _ (sym (c.how.ensures ∙ ap how_of tie) ∙ next) in
     omega (
@@ -24,7 +24,7 @@ both-requires-clause-n_le_stride c =
       c.right-b.ensures ∙ ap right_of tie,
       pre.grounds.left<,
       pre.grounds.right<,
-      pre.sized.1.terms,
+      c.formed.ensures.terms,
       pre.ties_len,
       W.all-names,
     )
@@ -32,19 +32,19 @@ both-requires-clause-n_le_stride c =
 pub both-requires-clause-by_index : goal.both-requires-clause-by_index
 both-requires-clause-by_index c =
     let next : c.how.result ≡ suc c.in-Some.m = omega (arith, c.in-Some.ensures) in
-    let W = c.requires.grounds.walks _ (sym (c.how.ensures ∙ ap how_of c.requires.sized.3) ∙ next) in
+    let W = c.requires.grounds.walks _ (sym (c.how.ensures ∙ ap how_of c.requires.all_points.1) ∙ next) in
     λ e e< t. omega (arith, W.earlier e e< t, c.requires.ties_len.3)
 
 pub returns-in-None-clause-supported : goal.returns-in-None-clause-supported
 returns-in-None-clause-supported c =
-    let tie = c.requires.sized.3 in
+    let tie = c.requires.all_points.1 in
     let zero : c.how.result ≡ 0 = omega (arith, c.in-None.ensures) in
     supported-arguments (c.left-a.ensures ∙ ap left_of tie) (c.right-b.ensures ∙ ap right_of tie) (sym (c.how.ensures ∙ ap how_of tie) ∙ zero) c.arguments.ensures
 
 pub returns-in-Some-clause-supported : goal.returns-in-Some-clause-supported
 returns-in-Some-clause-supported c =
     let pre = c.requires in
-    let tie = pre.sized.3 in
+    let tie = pre.all_points.1 in
     let next : c.how.result ≡ suc c.in-Some.m = omega (arith, c.in-Some.ensures) in
-    supported-both (c.left-a.ensures ∙ ap left_of tie) (c.right-b.ensures ∙ ap right_of tie) pre.sized.2 pre.grounds (sym (c.how.ensures ∙ ap how_of tie) ∙ next)
-    (omega (arith, pre.sized.1.terms, pre.sized.2)) (omega (arith, pre.sized.1.terms, pre.ties_len)) c.both.ensures.found
+    supported-both (c.left-a.ensures ∙ ap left_of tie) (c.right-b.ensures ∙ ap right_of tie) pre.all_points.0 pre.grounds (sym (c.how.ensures ∙ ap how_of tie) ∙ next)
+    (omega (arith, c.formed.ensures.terms, pre.all_points.0)) (omega (arith, c.formed.ensures.terms, pre.ties_len)) c.both.ensures.found

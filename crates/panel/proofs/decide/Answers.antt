@@ -9,5 +9,5 @@ use Rattle.panel.proofs.decide.Goals as goal
 pub returns : goal.returns
 returns c =
     inl
-    (says-met _ _ _ (omega arith) c.requires.1 c.count_terms.ensures.0 (omega arith, omega arith) (c.values.ensures.met (not-false _ c.if-not-values.false-raw))
+    (says-met _ _ _ (omega arith) c.count_terms-terms.ensures.formed c.count_terms-terms.ensures.count.0 (omega arith, omega arith) (c.values.ensures.met (not-false _ c.if-not-values.false-raw))
     (c.holds.ensures.length, c.holds.ensures.written))

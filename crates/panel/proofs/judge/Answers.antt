@@ -7,11 +7,11 @@ use Rattle.grounds.proofs.Replies.{fine-sheet}
 use Rattle.panel.proofs.Join.{answered-refused, answered-decided}
 use Rattle.panel.proofs.judge.Goals as goal
 
+pub of-requires : goal.of-requires
+of-requires c = fine-formed _ (fine-sheet _ _ (sym c.check.ensures ∙ ap check_says c.in-Ok.is)).0
+
 pub decide-requires : goal.decide-requires
-decide-requires c =
-    let (sheet, room) = fine-sheet _ _ (sym c.check.ensures ∙ ap check_says c.in-Ok.is) in
-    let formed = fine-formed _ sheet in
-    (formed.0, formed.1, room)
+decide-requires c = (fine-sheet _ _ (sym c.check.ensures ∙ ap check_says c.in-Ok.is)).1
 
 pub returns-in-Err : goal.returns-in-Err
 returns-in-Err c =
@@ -19,4 +19,4 @@ returns-in-Err c =
 
 pub returns-in-Ok : goal.returns-in-Ok
 returns-in-Ok c =
-    answered-decided _ _ _ _ _ (sym c.check.ensures ∙ ap check_says c.in-Ok.is) c.decide.ensures
+    answered-decided _ _ _ _ _ (sym c.check.ensures ∙ ap check_says c.in-Ok.is) (rw c.of.ensures at c.decide.ensures)

@@ -12,26 +12,24 @@ use Rattle.panel.proofs.search.Goals as goal
 pub write-requires : goal.write-requires
 write-requires c =
     let settled = c.on.ensures.judged.settled (ap number_of c.in-Holds.is) in record {
-      sized = (c.requires.0, c.requires.1);
-      d_len = (omega arith, omega (arith, c.requires.1.terms));
+      d_len = (omega arith, omega (arith, c.formed.ensures.terms));
       closed = settled.closed;
     }
 
 pub write-requires-in-Clashes : goal.write-requires-in-Clashes
 write-requires-in-Clashes c =
     let clash = c.on.ensures.judged.clashes (ap number_of c.in-Clashes.is) in record {
-      sized = (c.requires.0, c.requires.1);
-      clashes = (all-clash _ clash, omega (arith, c.requires.1.entries), omega arith);
+      clashes = (all-clash _ clash, omega (arith, c.formed.ensures.entries), omega arith);
     }
 
 pub overflow_cast-result-in-Clashes : goal.overflow_cast-result-in-Clashes
 overflow_cast-result-in-Clashes c =
-    omega (arith, within-short c.write-in-Clashes.ensures.blamed.within, c.write-in-Clashes.ensures.blamed.size_is, c.requires.1.entries)
+    omega (arith, within-short c.write-in-Clashes.ensures.blamed.within, c.write-in-Clashes.ensures.blamed.size_is, c.formed.ensures.entries)
 
 pub returns-in-Holds : goal.returns-in-Holds
 returns-in-Holds c =
     let settled = c.on.ensures.judged.settled (ap number_of c.in-Holds.is) in
-    rw c.write.ensures.length (inl (says_holds _ _ _ (omega arith) c.requires.1 _ settled c.write.ensures.written))
+    rw c.write.ensures.length (inl (says_holds _ _ _ (omega arith) c.formed.ensures _ settled c.write.ensures.written))
 
 pub returns-in-Clashes : goal.returns-in-Clashes
 returns-in-Clashes c =

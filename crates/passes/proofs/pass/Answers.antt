@@ -15,7 +15,7 @@ loop-i-init c = (refl, ascending-none _, same c.requires.d_len.1 no-terms)
 
 pub pass_term-requires : goal.pass_term-requires
 pass_term-requires c = record {
-  sized = (c.requires.sized.0, c.requires.sized.1, omega arith);
+  i_bound = omega arith;
   keys_len = (c.loop-i.invariant.0, c.loop-i.invariant.1);
   d_len = (omega arith, sofar-table _ c.loop-i.invariant.2);
 }
@@ -32,5 +32,5 @@ loop-i-preserved c =
 
 pub returns : goal.returns
 returns c =
-    let end : c.loop-i.i ≡ count_terms (sheet_of c.args.sheet.now) = omega arith in
+    let end : c.loop-i.i ≡ count_terms c.args.sheet.now = omega arith in
     ended _ (λ e A. A.rows) (rw end at c.loop-i.invariant.2)

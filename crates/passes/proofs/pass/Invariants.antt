@@ -11,4 +11,4 @@ use Rattle.passes.proofs.pass.Given as goal
 
 abbrev pub invariant-loop-i : goal.invariant-loop-i
 invariant-loop-i l =
-    (length l.keys ≡ max_terms) × Ascending l.i l.keys × Sofar (sheet_of l.sheet) (TermsPassed (sheet_of l.sheet) l.i l.keys) l.initial.d l.d l.fresh
+    (length l.keys ≡ max_terms) × Ascending l.i l.keys × Sofar l.sheet (TermsPassed l.sheet l.i l.keys) l.initial.d l.d l.fresh

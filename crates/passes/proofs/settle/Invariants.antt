@@ -8,7 +8,7 @@ use Rattle.pairs.proofs.Passes.{Passes}
 use Rattle.passes.proofs.settle.Given as goal
 
 abbrev pub invariant-loop : goal.invariant-loop
-invariant-loop l = Passes (sheet_of l.sheet) l.initial.d l.d
+invariant-loop l = Passes l.sheet l.initial.d l.d
 
 abbrev pub decreases-loop : goal.decreases-loop
-decreases-loop l = total (points (sheet_of l.sheet)) (cell l.d)
+decreases-loop l = total (points l.sheet) (cell l.d)

@@ -7,8 +7,8 @@ use Rattle.grounds.proofs.Replies.{fine-sheet}
 use Rattle.reason.proofs.Join.{reasoned-refused, reasoned-told}
 use Rattle.reason.proofs.reason.Goals as goal
 
-pub tell-requires : goal.tell-requires
-tell-requires c =
+pub of-requires : goal.of-requires
+of-requires c =
     fine-formed _ (fine-sheet _ _ (sym c.check.ensures ∙ ap check_says c.in-Ok.is)).0
 
 pub returns-in-Err : goal.returns-in-Err
@@ -17,4 +17,4 @@ returns-in-Err c =
 
 pub returns-in-Ok : goal.returns-in-Ok
 returns-in-Ok c =
-    reasoned-told _ _ _ _ _ (sym c.check.ensures ∙ ap check_says c.in-Ok.is) c.tell.ensures
+    reasoned-told _ _ _ _ _ (sym c.check.ensures ∙ ap check_says c.in-Ok.is) (rw c.of.ensures at c.tell.ensures)

@@ -13,16 +13,15 @@ returns-then-room-lt-ROOM c =
 
 pub leave_out-requires : goal.leave_out-requires
 leave_out-requires c =
-    let wf = c.requires.1 in record {
-      sized = c.requires;
+    let wf = c.formed.ensures in record {
       sheet_in_bounds = (wf.entries, omega arith);
       clashes = (c.on.ensures.judged.clashes (ap number_of c.in-Clashes.is), λ x l. all-marked wf x l);
     }
 
 pub argue-requires : goal.argue-requires
 argue-requires c = record {
-  sized = (c.requires.0, c.requires.1, omega arith);
-  sheet_in_bounds = (omega (arith, c.requires.1.entries), omega arith);
+  sized = omega arith;
+  sheet_in_bounds = (omega (arith, c.formed.ensures.entries), omega arith);
   clashes = c.leave_out.ensures.first.has;
 }
 
@@ -31,8 +30,8 @@ overflow_cast-result c = omega (arith, c.argue.ensures.argued.short)
 
 pub returns-in-Holds : goal.returns-in-Holds
 returns-in-Holds c =
-    told-holds _ _ (all_hold c.requires.1 (c.on.ensures.judged.holds (ap number_of c.in-Holds.is)))
+    told-holds _ _ (all_hold c.formed.ensures (c.on.ensures.judged.holds (ap number_of c.in-Holds.is)))
 
 pub returns-else-room-lt-ROOM : goal.returns-else-room-lt-ROOM
 returns-else-room-lt-ROOM c =
-    told-why _ _ _ _ _ (omega arith) c.requires.1 (omega arith) c.leave_out.ensures.first c.argue.ensures.argued
+    told-why _ _ _ _ _ (omega arith) c.formed.ensures (omega arith) c.leave_out.ensures.first c.argue.ensures.argued

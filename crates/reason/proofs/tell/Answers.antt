@@ -7,4 +7,4 @@ use Rattle.reason.proofs.tell.Goals as goal
 pub returns-then-values : goal.returns-then-values
 returns-then-values c =
     let met = c.values.ensures.met c.if-values.true in
-    told-holds _ _ (all_hold c.requires.1 (record { D = _; n = _; meet = met.meet }))
+    told-holds _ _ (all_hold c.formed.ensures (record { D = _; n = _; meet = met.meet }))

@@ -19,14 +19,15 @@ unfolding ReadySays
 returns-then-not-rises c =
     (sym c.in_ok-check.ensures, list-none _ _ _ _ c.rises.ensures c.if-not-rises.true)
 
+pub of-requires : goal.of-requires
+of-requires c =
+    fine-formed _ (fine-sheet _ _ (sym c.in_ok-check.ensures)).0
+
 pub lay-requires : goal.lay-requires
-lay-requires c =
-    let (sized, formed) = fine-formed _ (fine-sheet _ _ (sym c.in_ok-check.ensures)).0 in (
-      sized,
-      formed,
-      (list-some c.args.sheet.now c.args.list.now _ c.rises.result c.rises.ensures c.if-not-rises.false).size,
-      ap length c.requires.1 ∙ length-replicate {A = ℕ} 768 0,
-    )
+lay-requires c = (
+  (list-some c.args.sheet.now c.args.list.now _ c.rises.result c.rises.ensures c.if-not-rises.false).size,
+  ap length c.requires.1 ∙ length-replicate {A = ℕ} 768 0,
+)
 
 pub returns-in_err-check : goal.returns-in_err-check
 unfolding ReadySays
@@ -38,4 +39,4 @@ pub returns : goal.returns
 unfolding ReadySays
 returns c =
     all-fine c.requires.1 (sym c.in_ok-check.ensures)
-    (list-some _ _ _ _ c.rises.ensures c.if-not-rises.false) c.lay.ensures
+    (list-some _ _ _ _ c.rises.ensures c.if-not-rises.false) (rw c.of.ensures at c.lay.ensures)

@@ -5,10 +5,9 @@ use mathlib.Core.Path.{◌≡◌}
 use mathlib.Core.Bool.{true, false}
 use lib.ListN.{get_or}
 use Rattle.cells.specs.Cells.{cell}
-use Rattle.sheet.specs.Decode.{sheet_of}
 use Rattle.sheet.specs.Sheet.{entry_at}
 use Rattle.ties.specs.Ties.{Broken}
 use Rattle.ties.proofs.apart.Given as goal
 
 abbrev pub invariant-loop-e : goal.invariant-loop-e
-invariant-loop-e l = (k : ℕ) → k < l.e → (get_or l.set k false ≡ true) × Broken (cell l.d) (entry_at (sheet_of l.sheet) k) → ⊥
+invariant-loop-e l = (k : ℕ) → k < l.e → (get_or l.set k false ≡ true) × Broken (cell l.d) (entry_at l.sheet k) → ⊥
