@@ -33,7 +33,7 @@ use sketch::ENDING;
 
 // Writes the record of the entries that the marks name, which clash, and answers its length. The table is the caller's to lend.
 pub fn argue(sheet: &Sheet, room: &mut [u8], marks: &[bool], d: &mut [u32]) -> usize
-    requires sized { (length d.old ≡ cells) }
+    requires d_len { length d.old ≡ cells }
     requires sheet_in_bounds { (count_entries sheet.now ≤ length marks.now) × (reason_room ≤ length room.old) }
     requires clashes { Clashes sheet.now (marked marks.now) }
     ensures argued { Argued sheet.now (marked marks.now) room.old room.new result }

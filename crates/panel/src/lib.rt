@@ -24,7 +24,7 @@ pub fn judge(sheet: &[u8], room: &mut [u8]) -> Answer
 
 // The answer to a sheet that isn't sent back: with values that were guessed and found to meet it, or by the table.
 fn decide(sheet: &Sheet, room: &mut [u8]) -> Answer
-    requires { (room_needed ≤ length room.old) }
+    requires { room_needed ≤ length room.old }
     ensures { Decided sheet.now room.old room.new (number_of result) (place_of result) }
 {
     let terms = sheet.count_terms();
@@ -38,7 +38,7 @@ fn decide(sheet: &Sheet, room: &mut [u8]) -> Answer
 
 // The answer by the table, which decides.
 fn search(sheet: &Sheet, room: &mut [u8]) -> Answer
-    requires { (room_needed ≤ length room.old) }
+    requires { room_needed ≤ length room.old }
     ensures { Decided sheet.now room.old room.new (number_of result) (place_of result) }
 {
     sheet.formed();

@@ -1,6 +1,6 @@
 -- Every reason that the panel writes gets a yes: its record is one, and the check of its list and its steps says so.
 -- Assumes nothing.
-use Prim.Native.Nat.{ℕ, zero, suc, ◌+◌, ◌*◌, ◌^◌, ◌≤◌, ◌<◌}
+use Prim.Native.Nat.{ℕ, suc, ◌+◌, ◌*◌, ◌^◌, ◌≤◌, ◌<◌}
 use mathlib.Core.Path.{◌≡◌, refl, sym, ◌∙◌, ap, subst}
 use mathlib.Core.Logic.{◌⊎◌, inl, inr}
 use mathlib.Core.List.{List, [], ◌∷◌, ◌++◌, append_assoc}
@@ -10,7 +10,7 @@ use native.Mathlib.Omega.{arith}
 use Rattle.big.specs.Big.{Bytes, big_of, bytes_of}
 use Rattle.big.proofs.Bytes.{bytes-length}
 use Rattle.whole.proofs.Order.{order}
-use Rattle.order.specs.First.{Set, set_of}
+use Rattle.order.specs.First.{Set}
 use Rattle.sheet.specs.Limits.{room_needed}
 use Rattle.sheet.specs.Decode.{byte_at, sheet_of}
 use Rattle.sheet.specs.Sheet.{Sheet, WellFormed, count_entries}
@@ -18,7 +18,6 @@ use Rattle.grounds.specs.Table.{Reply, fine, refused, refusal}
 use Rattle.grounds.proofs.Replies.{refused-ten, fine-sheet}
 use Rattle.grounds.proofs.Fine.{fine-formed}
 use Rattle.answer.specs.Record.{ListWithin}
-use Rattle.promise.specs.Answered.{over}
 use Rattle.promise.proofs.Listing.{within-short}
 use Rattle.reasons.specs.Step.{Step, step_at}
 use Rattle.reasons.specs.Rules.{TieRight, Closing}
@@ -26,13 +25,12 @@ use Rattle.reasons.specs.Rules.TieRight.{by-walks, by-functions}
 use Rattle.reasons.specs.Rules.Closing.{by-walk, by-entry}
 use Rattle.reasons.specs.Reason.{Reason}
 use Rattle.paper.specs.Record.{step_bytes, steps_bytes, count_ties, head_bytes, reason_record, reason_room}
-use Rattle.reason.specs.Reasoned.{Told, holds, short, why, SaysWhy, Reasoned}
-use Rattle.stated.specs.Said.{steps_of}
+use Rattle.reason.specs.Reasoned.{Told, holds, short, why, Reasoned}
 use Rattle.surveyor.specs.Surveyed.{Rises, Surveyed}
-use Rattle.recited.specs.Recited.{size_at, list_end, IsRecord, Recited, Recites}
+use Rattle.recited.specs.Recited.{list_end, IsRecord, Recited}
 use Rattle.recited.proofs.Recites.{recites-one}
 use Rattle.vouched.proofs.Read.{Stands, front, behind, number_read, Fits, Said, steps-read, steps-counted, step-read, at_least}
-use Rattle.vouched.proofs.Worth.{Reasoning, yes-exactly, yes-place}
+use Rattle.vouched.proofs.Worth.{yes-exactly, yes-place}
 
 -- what the rules leave of the steps' numbers
 tie-fits : {s : Sheet} {S : Set} {steps : List Step} {n : ℕ} {k : Step} → WellFormed s → TieRight s S steps n k → Fits k

@@ -13,8 +13,7 @@ use lib.Dec.{ltb}
 use borrow.Author.Tests.{lt-ltb}
 use Rattle.big.specs.Big.{Bytes, big_of, bytes_of, complement_of, signed_of}
 use Rattle.big.proofs.Bytes.{bytes-length, read-written, complement-fits, signed-complement}
-use Rattle.big.proofs.Reading.{big-more}
-use Rattle.sheet.specs.Decode.{byte_at, each}
+use Rattle.sheet.specs.Decode.{byte_at}
 use Rattle.sheet.proofs.Decode.{length-each, get_or-each}
 use Rattle.reasons.specs.Step.{Bound, entry, entry_back, term, term_back, tie, tie_back, Step, by_walks, by_functions, closing_walk, closing_entry, step_at}
 use Rattle.reasons.specs.Rules.{TieWithin}

@@ -21,10 +21,10 @@ use Rattle.reasons.specs.Rules.{TieRight, Closing}
 use Rattle.reasons.specs.Rules.TieRight.{by-walks, by-functions}
 use Rattle.reasons.specs.Reason.{Reason}
 use Rattle.reasons.proofs.Sound.{reason-clashes}
-use Rattle.stated.specs.Said.{step_of, steps_of, Formed, record_at}
+use Rattle.stated.specs.Said.{steps_of, Formed, record_at}
 use Rattle.stated.specs.declared.Step.{Step as Record}
 use Rattle.stated.proofs.Said.{length-steps, step-said}
-use Rattle.surveyor.specs.Surveyed.{Rises, TiesRight, ClosesRight, Right, FirstWrong, Told, no-list, yes, wrong, Surveyed}
+use Rattle.surveyor.specs.Surveyed.{Rises, Right, FirstWrong, Told, no-list, yes, wrong, Surveyed}
 
 -- a step that ties doesn't close
 ties-or-closes : {s : Sheet} {S : Set} {steps : List Step} {n : ℕ} {k : Step} → TieRight s S steps n k → Closing s S steps n k → ⊥

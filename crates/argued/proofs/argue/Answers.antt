@@ -14,7 +14,7 @@ by_round-requires c =
     let G = c.grow-g.ensures.grew in
     let D = drafted-of c.list-m.ensures c.grow-g.ensures.front G.ties G.sound c.lay-count.ensures in (
       ready W D G (rw c.count_entries.ensures.count.0 at c.list-k.ensures) c.requires.sheet_in_bounds.1 (omega (arith, c.lay-count.auto.names, c.list-m.auto.names))
-          (omega (arith, c.lay-count.auto.ties)) (omega (arith, c.lay-count.auto.labels)) (c.grow-g.auto.d ∙ c.requires.sized),
+          (omega (arith, c.lay-count.auto.ties)) (omega (arith, c.lay-count.auto.labels)) (c.grow-g.auto.d ∙ c.requires.d_len),
       c.if-put-listed.true,
     )
 
@@ -32,7 +32,7 @@ broken-e-requires c =
     let W = c.formed.ensures in
     let G = c.grow-g.ensures.grew in
     let D = drafted-of c.list-m.ensures c.grow-g.ensures.front G.ties G.sound c.lay-count.ensures in record {
-      sheet_in_bounds = (pre.sheet_in_bounds.0, c.grow-g.auto.d ∙ c.requires.sized);
+      sheet_in_bounds = (pre.sheet_in_bounds.0, c.grow-g.auto.d ∙ c.requires.d_len);
       closed_table = G.exact.table.closed;
       fact = some-broken W D.ledger (all-grew G c.if-put-listed.false) pre.clashes;
     }
@@ -45,7 +45,7 @@ by_entry-requires c =
       ready =
           ready W D (all-grew G c.if-put-listed.false) (rw c.count_entries.ensures.count.0 at c.list-k.ensures) c.requires.sheet_in_bounds.1
           (omega (arith, c.lay-count.auto.names, c.list-m.auto.names)) (omega (arith, c.lay-count.auto.ties)) (omega (arith, c.lay-count.auto.labels))
-          (c.grow-g.auto.d ∙ c.requires.sized);
+          (c.grow-g.auto.d ∙ c.requires.d_len);
       e_bound = (c.broken-e.ensures.0, c.broken-e.ensures.1.1);
     }
 

@@ -20,7 +20,7 @@ leave_out-requires c =
 
 pub argue-requires : goal.argue-requires
 argue-requires c = record {
-  sized = omega arith;
+  d_len = omega arith;
   sheet_in_bounds = (omega (arith, c.formed.ensures.entries), omega arith);
   clashes = c.leave_out.ensures.first.has;
 }
