@@ -1,7 +1,7 @@
--- The rows of best totals as they are made: each bound put in front.
+-- The rows of best totals as they are made: a row copied, and each bound put in front.
 -- Assumes nothing.
 use Prim.Native.Nat.{ℕ, ◌+◌, ◌*◌, ◌≤◌, ◌<◌}
-use mathlib.Core.Path.{◌≡◌, sym, ◌∙◌, ap}
+use mathlib.Core.Path.{◌≡◌, refl, sym, ◌∙◌, ap}
 use mathlib.Core.Bool.{Bool, true, true≢false}
 use mathlib.Core.List.{List}
 use mathlib.Core.Logic.{◌⊎◌, inl, inr, ⊎_elim}
@@ -13,7 +13,20 @@ use borrow.Author.Count.{below_more}
 use Rattle.kind.specs.Code.{sum_of}
 use Rattle.cells.specs.Cells.{stride, cell, Kept}
 use Rattle.layers.specs.Bounds.{Bounds, from, to, code, Sound}
-use Rattle.layers.specs.Layer.{Over, RowOver}
+use Rattle.layers.specs.Layer.{Over, Copied, RowOver}
+
+pub copied_none : (d : List ℕ) (h : ℕ) → Copied 0 d d h
+copied_none d h = record { copied = λ i l. absurd (omega arith); before = λ k l. refl }
+
+pub copied_more : (old d : List ℕ) (h i p v : ℕ) → i < stride → p ≡ (h + 1) * stride + i → p < length d → v ≡ get_or d (h * stride + i) 0
+    → Copied i old d h → Copied (i + 1) old (set d p v) h
+copied_more old d h i p v i< e l f C =
+    record {
+      copied = below_more (λ k. cell (set d p v) (h + 1) k ≡ cell old h k) i
+          (λ k k<. get_or-set_other d p ((h + 1) * stride + k) v 0 (omega arith) ∙ C.copied k k<)
+          (ap (λ (q : ℕ). get_or (set d p v) q 0) (sym e) ∙ get_or-set_same d p v 0 l ∙ f ∙ C.before (h * stride + i) (omega arith));
+      before = λ k k<. get_or-set_other d p k v 0 (omega arith) ∙ C.before k k<;
+    }
 
 wider : {B : Bounds} {low : ℕ → ℕ} {i t : ℕ} (m : ℕ) → Over B m low i t → Over B (m + 1) low i t
 wider m o = record { number = o.number; there = omega (arith, o.there); starts = o.starts; sums = o.sums }

@@ -84,7 +84,10 @@ fn copy(best: &mut [u32], h: usize, n: usize)
     ensures kept { Kept n best.old best.new }
 {
     let at = h * STRIDE;
-    best.copy_within(at..at + n, at + STRIDE);
+    // One by one: by copy_within, or over two slices, the archive for C needs memmove.
+    for i in 0..n {
+        best[at + STRIDE + i] = best[at + i];
+    }
 }
 
 // Each bound in front of row h, where that makes row h + 1 better; whether any does.
