@@ -1,6 +1,6 @@
 // Terms and entries in words: as a text has them, an unknown by its term's number.
-ghost use Rattle.std.specs.Prelude.{◌≡◌, ◌+◌, ◌%◌, ◌^◌, min};
-ghost use lib.IntN.{sub_ℕ};
+ghost use Rattle.std.specs.Prelude.{◌≡◌, ◌+◌, ◌-◌, ◌%◌, ◌^◌, min};
+ghost use lib.Dec.{ltb};
 
 use crate::records;
 use sheet::{Biased, EntryNumber, Relation, Term, TermNumber};
@@ -55,7 +55,7 @@ impl<'a, P: Print> Words<'a, P> {
         if 0 < deep && self.sizes[usize::from(i.0)] <= MOST {
             self.say_whole(i, deep - 1)
         } else {
-            print!(self.rt; "t{}", i.0)
+            self.say_named("t", i.0, "")
         }
     }
 
@@ -63,25 +63,46 @@ impl<'a, P: Print> Words<'a, P> {
     #[cycle(say_term_say_whole)]
     fn say_whole(&self, i: TermNumber, deep: u8) -> io::Result<()> {
         match records::term(self.sheet, i) {
-            Term::Unknown => print!(self.rt; "x{}", i.0),
-            Term::Number(c) => print!(self.rt; "{}", typed(c)),
+            Term::Unknown => self.say_named("x", i.0, ""),
+            Term::Number(c) => self.say_number(c),
             Term::Shift(a, c) => {
                 self.say_term(a, deep)?;
-                print!(self.rt; "{:+}", typed(c))
+                self.say_shift(c)
             }
             Term::Apply(f, a) => {
-                print!(self.rt; "f{}(", f.0)?;
+                self.say_named("f", f.0, "(")?;
                 self.say_term(a, deep)?;
-                print!(self.rt; ")")
+                self.say_mark(")")
             }
             Term::Apply2(f, a, b) => {
-                print!(self.rt; "f{}(", f.0)?;
+                self.say_named("f", f.0, "(")?;
                 self.say_term(a, deep)?;
-                print!(self.rt; ",")?;
+                self.say_mark(",")?;
                 self.say_term(b, deep)?;
-                print!(self.rt; ")")
+                self.say_mark(")")
             }
         }
+    }
+
+    // These four are functions, and stay so, since print! takes a buffer: it isn't to lie in the frame of each term within a term.
+    #[inline(never)]
+    fn say_named(&self, letter: &str, number: u8, behind: &str) -> io::Result<()> {
+        print!(self.rt; "{letter}{number}{behind}")
+    }
+
+    #[inline(never)]
+    fn say_number(&self, c: Biased) -> io::Result<()> {
+        print!(self.rt; "{}", Signed(c))
+    }
+
+    #[inline(never)]
+    fn say_shift(&self, c: Biased) -> io::Result<()> {
+        print!(self.rt; "{:+}", Signed(c))
+    }
+
+    #[inline(never)]
+    fn say_mark(&self, mark: &str) -> io::Result<()> {
+        print!(self.rt; "{mark}")
     }
 
     // An entry by its number and in words.
@@ -127,11 +148,29 @@ fn sign(relation: Relation) -> &'static str {
     }
 }
 
-// c as it is typed: a number by itself, a shift with its sign.
-fn typed(c: Biased) -> i32
-    ensures { result ≡ sub_ℕ c.0 32768 }
+// c as it is typed: a number by itself, and by {:+} a shift with its sign.
+#[derive(Clone, Copy)]
+struct Signed(Biased);
+
+impl fmt::Display for Signed {
+    fn fmt<W: fmt::Write>(&self, f: &mut fmt::Formatter<W>) -> fmt::Result {
+        let (below, far) = typed(self.0);
+        if below {
+            write!(f, "-{far}")
+        } else if f.sign_plus() {
+            write!(f, "+{far}")
+        } else {
+            write!(f, "{far}")
+        }
+    }
+}
+
+// Whether c is below 0, and how far it is from it.
+fn typed(c: Biased) -> (bool, u16)
+    ensures below { result.0 ≡ ltb c.0 32768 }
+    ensures far { result.1 ≡ (c.0 - 32768) + (32768 - c.0) }
 {
-    i32::from(c.0) - 32768
+    (c.0 < 32768, c.0.abs_diff(32768))
 }
 
 // c as a record has it, two's complement of eight bytes.
