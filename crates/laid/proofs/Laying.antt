@@ -1,17 +1,21 @@
 -- Ties laid up to bound e: what the loop keeps, how it begins, and what it finds at bound e.
 -- Assumes nothing.
 use Prim.Native.Nat.{ℕ, ◌+◌, ◌*◌, ◌≤◌, ◌<◌}
-use mathlib.Core.Path.{◌≡◌, refl, ◌∙◌}
+use mathlib.Core.Path.{◌≡◌, refl, sym, ◌∙◌, ap}
 use mathlib.Core.List.{List}
 use lib.IntN.{pos}
 use lib.ListN.{length, get_or, set, length-set}
 use lib.Seq.{get_or-set_same, get_or-set_other}
 use native.Mathlib.Omega.{arith}
+use Rattle.std.proofs.Common.{lt_of_not-le}
+use Rattle.std.proofs.lemmas.List.{get_or_past}
+use Rattle.kind.specs.Code.{base}
+use Rattle.kind.proofs.Kind.{kind-three, kind-inj}
 use Rattle.closure.specs.Closed.{TiedAt}
 use Rattle.sheet.specs.Sheet.{Sheet}
 use Rattle.settled.specs.Settled.{points}
 use Rattle.walked.specs.Borne.{Exact}
-use Rattle.layers.specs.Bounds.{bounds, Listed}
+use Rattle.layers.specs.Bounds.{nowhere, bounds, code_at, Listed}
 use Rattle.layers.specs.declared.Bound.{Bound}
 use Rattle.sketch.specs.Sketch.{left, right}
 use Rattle.forest.specs.Labels.{Begun}
@@ -69,3 +73,9 @@ module _ {s : Sheet} {list : List Bound} {old names ties labels : List ℕ} {m e
 
   pub function-tie : FunctionTie s list e
   function-tie = rw L.e-is (T.tie L.before (omega (arith, L.e-is, T.listed-is)))
+
+  -- a bound past the list's end has the code 0, which is another gap's
+  pub bound-there : e < length list
+  bound-there = lt_of_not-le (λ h.
+      let past : code_at list e ≡ 0 = ap (λ (b : Bound). b.gap.0) (get_or_past list e nowhere h) in
+      omega (arith, past, kind-inj (code_at list e) base (omega (arith, past)) (omega arith) (function-tie.gap ∙ sym kind-three.1)))

@@ -28,7 +28,7 @@ pub fn lay(
     ties: &mut [u32],
     labels: &mut [u8],
 ) -> usize
-    requires list_len { (listed ≤ length list.now) × (length names.old ≡ most) × (length ties.old ≡ stride) × (length labels.old ≡ cells) × (listed ≤ most) }
+    requires names_len { (length names.old ≡ most) × (length ties.old ≡ stride) × (length labels.old ≡ cells) × (listed ≤ most) }
     requires function_ties { FunctionTies sheet.now list.now m listed }
     ensures { Laid sheet.now list.now names.old names.new ties.new labels.new m listed result }
 {

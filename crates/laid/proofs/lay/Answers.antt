@@ -1,12 +1,18 @@
 -- `laid::lay` meets its contract: a turn for each tie of functions (proofs/Turn.antt).
 -- Assumes nothing.
 use Rattle.std.proofs.Common.{◌≡◌, ℕ, ◌+◌, ◌≤◌, ap, arith}
-use Rattle.laid.proofs.Laying.{none_yet, named, both-listed, function-tie}
+use Rattle.laid.proofs.Laying.{none_yet, named, both-listed, function-tie, bound-there}
 use Rattle.laid.proofs.Turn.{room, turned}
 use Rattle.laid.proofs.lay.Goals as goal
 
 pub loop-e-init : goal.loop-e-init
 loop-e-init c = (omega (arith, c.requires.function_ties.listed-is), none_yet (ap (λ (k : ℕ). k + 1) c.count_terms-n.ensures.count.0) c.start.ensures)
+
+pub bounds-list-e : goal.bounds-list-e
+bounds-list-e c = bound-there c.loop-e.invariant.1 c.requires.function_ties c.loop-e-test.true
+
+pub bounds-list-e-in-loop-e : goal.bounds-list-e-in-loop-e
+bounds-list-e-in-loop-e c = bound-there c.loop-e.invariant.1 c.requires.function_ties c.loop-e-test.true
 
 pub arguments-t-requires-clause-i_bound : goal.arguments-t-requires-clause-i_bound
 arguments-t-requires-clause-i_bound c =
